@@ -1,0 +1,28 @@
+// Steps of other crates, for arguments that they have checked.
+ghost use mathlib.Core.Path.{_≡_};
+ghost use Prim.Native.Nat.{_≤_};
+ghost use lib.IntN.{pos};
+ghost use lib.ListN.{length};
+ghost use lib.Ieee.{binary32, ofInt};
+ghost use Rattle.numeric.specs.Numeric.{allInRange};
+
+// An index as a float: exact.
+pub fn of_index(n: usize) -> f32
+    requires { ⌜ n ≤ 16777216 ⌝ }
+    ensures { λ r. ⌜ r ≡ ofInt binary32 (pos n) ⌝ }
+{
+    n as f32
+}
+
+// Whether every reading lies from 0 to the float of the pattern `limit`, with a clear sign.
+pub fn all_in_range(y: &[f32], limit: u32) -> bool
+    ensures { λ r. ⌜ r ≡ allInRange limit (now (y .entry)) ⌝ }
+{
+    let mut all = true;
+    for i in 0..y.len() {
+        if !super::in_range(y[i], limit) {
+            all = false;
+        }
+    }
+    all
+}
