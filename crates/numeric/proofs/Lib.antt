@@ -1,2 +1,3 @@
 -- What the proofs of `numeric` and of the crates above it cite.
 pub mod Laws
+pub mod Order

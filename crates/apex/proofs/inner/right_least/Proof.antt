@@ -1,0 +1,89 @@
+use lib.ListN.{drop-of-length-le}
+use Rattle.apex.specs.Apex.{rightOf, upToHigher, least}
+use Rattle.apex.proofs.Laws.{right-cons, walk-none, walk-on, walk-stop}
+use Rattle.numeric.specs.Arith.{at}
+use mathlib.Core.Path.{_≡_, sym, _∙_}
+use mathlib.Core.Logic.{⊎-elim}
+use Prim.Native.Nat.{_≤_, _-_, _+_}
+use native.Mathlib.Omega.{arith}
+use borrow.Author.Needs.{needs}
+use lib.ListN.{length, drop}
+use Rattle.apex.proofs.inner.right_least.Statement.{statement}
+use Rattle.apex.proofs.inner.right_least.Tie as tie
+
+abbrev Inv-loop : tie.InvT-loop
+Inv-loop y i apex m₀ r₀ m r = (r ≤ length y) × (least apex (upToHigher apex (rightOf y i)) ≡ least m (upToHigher apex (drop r y)))
+
+abbrev μ-loop : tie.MeasureT-loop
+μ-loop y i apex m₀ r₀ m r = length y - r
+
+mul-apex : tie.Need-mul-apex Inv-loop μ-loop
+mul-apex c = search needs
+
+shared-slice-read-apex : tie.Need-shared-slice-read-apex Inv-loop μ-loop
+shared-slice-read-apex c = search needs
+
+add-r : tie.Need-add-r Inv-loop μ-loop
+add-r c = search needs
+
+loop-holds : tie.Need-loop-holds Inv-loop μ-loop
+loop-holds c = search needs
+
+mul-v : tie.Need-mul-v Inv-loop μ-loop
+mul-v c = search needs
+
+shared-slice-read-v : tie.Need-shared-slice-read-v Inv-loop μ-loop
+shared-slice-read-v c = search needs
+
+add-r-2 : tie.Need-add-r-2 Inv-loop μ-loop
+add-r-2 c = search needs
+
+loop-less : tie.Need-loop-less Inv-loop μ-loop
+loop-less c = search needs
+
+loop-again : tie.Need-loop-again Inv-loop μ-loop
+loop-again c = let l = c .before .before .before .before in
+    let args = l .before .before .args in
+    let y = args .y .now in
+    let k = l .loop .r in (
+      omega arith,
+      l .loop .inv .1
+          ∙ walk-on (at y (args .i)) (l .loop .m) (c .before .if1 .m) (at y k) (drop k y) (drop (k + 1) y) (right-cons y k (omega arith))
+          (⊎-elim (λ w. rw (w .0 .taken, w .1)) (λ w. rw (w .0 .left, w .1)) (c .before .if1 .came))
+          (c .if2 .left),
+    )
+
+returns : tie.Need-returns Inv-loop μ-loop
+returns c = let l = c .before in
+    let args = l .before .before .args in
+    let y = args .y .now in
+    sym (l .loop .inv .1 ∙ walk-none (at y (args .i)) (l .loop .m) (drop (l .loop .r) y) (let h : length y ≤ l .loop .r = omega arith in drop-of-length-le y h))
+
+returns-2 : tie.Need-returns-2 Inv-loop μ-loop
+returns-2 c = let l = c .before .before .before .before in
+    let args = l .before .before .args in
+    let y = args .y .now in
+    let k = l .loop .r in
+    sym
+    (l .loop .inv .1
+    ∙ walk-stop (at y (args .i)) (l .loop .m) (c .before .if1 .m) (at y k) (drop k y) (drop (k + 1) y) (right-cons y k (omega arith))
+    (⊎-elim (λ w. rw (w .0 .taken, w .1)) (λ w. rw (w .0 .left, w .1)) (c .before .if1 .came))
+    (c .if2 .taken))
+
+pub right-least-spec : {M : Type 1} → statement M
+right-least-spec =
+    tie.close
+    (tie.spec
+    Inv-loop
+    μ-loop
+    mul-apex
+    shared-slice-read-apex
+    add-r
+    loop-holds
+    mul-v
+    shared-slice-read-v
+    add-r-2
+    loop-less
+    loop-again
+    returns
+    returns-2)

@@ -1,0 +1,126 @@
+// Steps over a row that the caller has checked.
+ghost use mathlib.Core.Path.{_≡_};
+ghost use Prim.Native.Nat.{_≤_, _<_, _+_};
+ghost use lib.ListN.{length};
+ghost use Rattle.numeric.specs.Arith.{at};
+ghost use Rattle.apex.specs.Apex.{isCandidate, leftOf, rightOf, upToHigher, least, baseline, riseOf, leftFoot, rightFoot, share, leftCrossing, rightCrossing};
+
+// How far an apex rises above its baseline, and the height half of that above the baseline.
+pub struct Rise {
+    pub prominence: f32,
+    pub half: f32,
+}
+
+pub fn is_candidate(y: &[f32], i: usize) -> bool
+    requires { ⌜ (0 < i) × (i + 1 < length (now y)) ⌝ }
+    ensures { λ r. ⌜ r ≡ isCandidate (now (y .entry)) i ⌝ }
+{
+    y[i] > y[i - 1] && y[i] >= y[i + 1]
+}
+
+// The least reading from i on to the left, as far as the first one above it.
+fn left_least(y: &[f32], i: usize) -> f32
+    requires { ⌜ i < length (now y) ⌝ }
+    ensures { λ r. ⌜ r ≡ least (at (now (y .entry)) i) (upToHigher (at (now (y .entry)) i) (leftOf (now (y .entry)) i)) ⌝ }
+{
+    let apex = y[i];
+    let mut m = apex;
+    let mut l = i;
+    while l > 0 {
+        l -= 1;
+        let v = y[l];
+        if v < m {
+            m = v;
+        }
+        if v > apex {
+            break;
+        }
+    }
+    m
+}
+
+// The same to the right.
+fn right_least(y: &[f32], i: usize) -> f32
+    requires { ⌜ i < length (now y) ⌝ }
+    ensures { λ r. ⌜ r ≡ least (at (now (y .entry)) i) (upToHigher (at (now (y .entry)) i) (rightOf (now (y .entry)) i)) ⌝ }
+{
+    let apex = y[i];
+    let mut m = apex;
+    let mut r = i + 1;
+    while r < y.len() {
+        let v = y[r];
+        r += 1;
+        if v < m {
+            m = v;
+        }
+        if v > apex {
+            break;
+        }
+    }
+    m
+}
+
+pub fn rise_of(y: &[f32], i: usize) -> Rise
+    requires { ⌜ i < length (now y) ⌝ }
+    ensures { λ r. ⌜ r ≡ riseOf (now (y .entry)) i ⌝ }
+{
+    let base = numeric::max(left_least(y, i), right_least(y, i));
+    let prominence = y[i] - base;
+    Rise {
+        prominence,
+        half: base + 0.5 * prominence,
+    }
+}
+
+fn left_foot(y: &[f32], h: f32, i: usize) -> usize
+    requires { ⌜ i < length (now y) ⌝ }
+    ensures { λ r. ⌜ r ≡ leftFoot (now (y .entry)) h i ⌝ }
+{
+    let mut w = i;
+    while w > 0 && y[w] > h {
+        w -= 1;
+    }
+    w
+}
+
+fn right_foot(y: &[f32], h: f32, i: usize) -> usize
+    requires { ⌜ i < length (now y) ⌝ }
+    ensures { λ r. ⌜ r ≡ rightFoot (now (y .entry)) h i ⌝ }
+{
+    let mut w = i;
+    while w + 1 < y.len() && y[w] > h {
+        w += 1;
+    }
+    w
+}
+
+fn share_of(h: f32, a: f32, b: f32) -> f32
+    ensures { λ r. ⌜ r ≡ share h a b ⌝ }
+{
+    if b != a { (h - a) / (b - a) } else { 0.0 }
+}
+
+// Where the row crosses the height h left of i.
+pub fn left_crossing(y: &[f32], h: f32, i: usize) -> f32
+    requires { ⌜ (i < length (now y)) × (length (now y) ≤ 16777216) ⌝ }
+    ensures { λ r. ⌜ r ≡ leftCrossing (now (y .entry)) h i ⌝ }
+{
+    let w = left_foot(y, h, i);
+    let x = numeric::inner::of_index(w);
+    if w < i {
+        return x + share_of(h, y[w], y[w + 1]);
+    }
+    x
+}
+
+// Where the row crosses the height h right of i.
+pub fn right_crossing(y: &[f32], h: f32, i: usize) -> f32
+    requires { ⌜ (i < length (now y)) × (length (now y) ≤ 16777216) ⌝ }
+    ensures { λ r. ⌜ r ≡ rightCrossing (now (y .entry)) h i ⌝ }
+{
+    let w = right_foot(y, h, i);
+    if i < w {
+        return numeric::inner::of_index(w - 1) + share_of(h, y[w - 1], y[w]);
+    }
+    numeric::inner::of_index(w)
+}

@@ -1,0 +1,2 @@
+-- What the proofs of `area` share.
+pub mod Laws

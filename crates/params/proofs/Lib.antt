@@ -1,0 +1,2 @@
+-- What the proofs of `params` cite.
+pub mod Laws

@@ -1,0 +1,2 @@
+-- The definitions that the contracts of `params` cite.
+pub mod Params

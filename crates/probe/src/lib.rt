@@ -1,0 +1,213 @@
+// C entries over the leaves, for the comparison with the Rust (oracle/). They are no part of what is sold.
+ghost use mathlib.Core.Path.{_≡_};
+ghost use mathlib.Core.Bool.{cond, _&&_};
+ghost use lib.IntN.{pos};
+ghost use lib.Ieee.{binary32, ofInt, ofBits, toBits};
+ghost use Rattle.numeric.specs.Numeric.{maxF, minF, absF, clampF, castF, lerpF, quadF};
+ghost use Rattle.rounding.specs.Rounding.{floorF, ceilF, roundF};
+ghost use Rattle.apex.specs.Apex.{prominence, halfHeight, leftCrossing, rightCrossing};
+ghost use Rattle.area.specs.Area.{areaAnswer};
+ghost use Rattle.record.specs.Record.{peakAt, withPeak};
+ghost use Rattle.probe.specs.Probe.{areaWord, candidateAt, inside, hasPlace, soundWord};
+
+#[no_mangle]
+pub extern "C" fn probe_max(a: f32, b: f32) -> f32
+    ensures { λ r. ⌜ r ≡ maxF a b ⌝ }
+{
+    numeric::max(a, b)
+}
+
+#[no_mangle]
+pub extern "C" fn probe_min(a: f32, b: f32) -> f32
+    ensures { λ r. ⌜ r ≡ minF a b ⌝ }
+{
+    numeric::min(a, b)
+}
+
+#[no_mangle]
+pub extern "C" fn probe_abs(x: f32) -> f32
+    ensures { λ r. ⌜ r ≡ absF x ⌝ }
+{
+    numeric::abs(x)
+}
+
+#[no_mangle]
+pub extern "C" fn probe_clamp(x: f32, lo: f32, hi: f32) -> f32
+    ensures { λ r. ⌜ r ≡ clampF x lo hi ⌝ }
+{
+    numeric::clamp(x, lo, hi)
+}
+
+#[no_mangle]
+pub extern "C" fn probe_floor(x: f32) -> f32
+    ensures { λ r. ⌜ r ≡ floorF x ⌝ }
+{
+    rounding::floor(x)
+}
+
+#[no_mangle]
+pub extern "C" fn probe_ceil(x: f32) -> f32
+    ensures { λ r. ⌜ r ≡ ceilF x ⌝ }
+{
+    rounding::ceil(x)
+}
+
+#[no_mangle]
+pub extern "C" fn probe_round(x: f32) -> f32
+    ensures { λ r. ⌜ r ≡ roundF x ⌝ }
+{
+    rounding::round(x)
+}
+
+#[no_mangle]
+pub extern "C" fn probe_cast_sat(x: f32) -> u32
+    ensures { λ r. ⌜ r ≡ castF x ⌝ }
+{
+    numeric::cast_sat(x)
+}
+
+#[no_mangle]
+pub extern "C" fn probe_of_u32(n: u32) -> f32
+    ensures { λ r. ⌜ r ≡ ofInt binary32 (pos n) ⌝ }
+{
+    numeric::of_u32(n)
+}
+
+#[no_mangle]
+pub extern "C" fn probe_word_of(x: f32) -> u32
+    ensures { λ r. ⌜ r ≡ toBits binary32 x ⌝ }
+{
+    numeric::word_of(x)
+}
+
+#[no_mangle]
+pub extern "C" fn probe_float_of(w: u32) -> f32
+    ensures { λ r. ⌜ r ≡ ofBits binary32 w ⌝ }
+{
+    numeric::float_of(w)
+}
+
+#[no_mangle]
+pub extern "C" fn probe_lerp(a: f32, b: f32, t: f32) -> f32
+    ensures { λ r. ⌜ r ≡ lerpF a b t ⌝ }
+{
+    numeric::lerp(a, b, t)
+}
+
+#[no_mangle]
+pub extern "C" fn probe_quad_subsample(y0: f32, y1: f32, y2: f32) -> f32
+    ensures { λ r. ⌜ r ≡ quadF y0 y1 y2 ⌝ }
+{
+    numeric::quad_subsample(y0, y1, y2)
+}
+
+// The number times 2 ^ 32, or the area's bit pattern.
+#[no_mangle]
+pub extern "C" fn probe_area(y: &[f32], x0: f32, x1: f32) -> u64
+    ensures { λ r. ⌜ r ≡ areaWord (areaAnswer (now (y .entry)) x0 x1) ⌝ }
+{
+    match area::trapezoid_area_fractional(y, x0, x1) {
+        area::AreaAnswer::Area(a) => numeric::word_of(a) as u64,
+        area::AreaAnswer::Refused(n) => (n as u64) * 4294967296,
+    }
+}
+
+// Of an index with a neighbour on either side.
+#[no_mangle]
+pub extern "C" fn probe_is_candidate(y: &[f32], i: usize) -> bool
+    ensures { λ r. ⌜ r ≡ candidateAt (now (y .entry)) i ⌝ }
+{
+    if i < y.len() {
+        if i == 0 {
+            return false;
+        }
+        if y.len() - i < 2 {
+            return false;
+        }
+        return apex::inner::is_candidate(y, i);
+    }
+    false
+}
+
+// 0 past the row, here and below.
+#[no_mangle]
+pub extern "C" fn probe_prominence(y: &[f32], i: usize) -> f32
+    ensures { λ r. ⌜ r ≡ inside (now (y .entry)) i (prominence (now (y .entry)) i) ⌝ }
+{
+    if i < y.len() {
+        if y.len() > 16777216 {
+            return 0.0;
+        }
+        return apex::inner::rise_of(y, i).prominence;
+    }
+    0.0
+}
+
+#[no_mangle]
+pub extern "C" fn probe_half_height(y: &[f32], i: usize) -> f32
+    ensures { λ r. ⌜ r ≡ inside (now (y .entry)) i (halfHeight (now (y .entry)) i) ⌝ }
+{
+    if i < y.len() {
+        if y.len() > 16777216 {
+            return 0.0;
+        }
+        return apex::inner::rise_of(y, i).half;
+    }
+    0.0
+}
+
+#[no_mangle]
+pub extern "C" fn probe_left_crossing(y: &[f32], h: f32, i: usize) -> f32
+    ensures { λ r. ⌜ r ≡ inside (now (y .entry)) i (leftCrossing (now (y .entry)) h i) ⌝ }
+{
+    if i < y.len() {
+        if y.len() > 16777216 {
+            return 0.0;
+        }
+        return apex::inner::left_crossing(y, h, i);
+    }
+    0.0
+}
+
+#[no_mangle]
+pub extern "C" fn probe_right_crossing(y: &[f32], h: f32, i: usize) -> f32
+    ensures { λ r. ⌜ r ≡ inside (now (y .entry)) i (rightCrossing (now (y .entry)) h i) ⌝ }
+{
+    if i < y.len() {
+        if y.len() > 16777216 {
+            return 0.0;
+        }
+        return apex::inner::right_crossing(y, h, i);
+    }
+    0.0
+}
+
+// Reads the record at place k of a list and writes it at place j of another, where both are there.
+#[no_mangle]
+pub extern "C" fn probe_move(list: &[u32], k: usize, out: &mut [u32], j: usize) -> bool
+    ensures { λ r. ⌜ r ≡ (hasPlace (now (list .entry)) k && hasPlace (now (out .entry)) j) ⌝ }
+    ensures { λ r. ⌜ now (out .exit) ≡ cond r (withPeak (now (out .entry)) j (peakAt (now (list .entry)) k)) (now (out .entry)) ⌝ }
+{
+    if k < list.len() / 27 {
+        if j < out.len() / 27 {
+            record::inner::put_peak(out, j, record::inner::peak_at(list, k));
+            return true;
+        }
+        return false;
+    }
+    false
+}
+
+// 1 where the record at place k is sound, 0 where it is not, 2 where there is none.
+#[no_mangle]
+pub extern "C" fn probe_sound(list: &[u32], k: usize) -> u32
+    ensures { λ r. ⌜ r ≡ soundWord (now (list .entry)) k ⌝ }
+{
+    if k < list.len() / 27 {
+        if record::inner::is_sound(record::inner::peak_at(list, k)) {
+            return 1;
+        }
+        return 0;
+    }
+    2
+}

@@ -1,0 +1,2 @@
+-- What the proofs of `rounding` cite.
+pub mod Laws

@@ -1,0 +1,2 @@
+-- The definitions that the contracts of `rounding` cite.
+pub mod Rounding

@@ -1,0 +1,60 @@
+//! Compares the port with the Rust that it ports, bit for bit.
+//!
+//! `oracle compare [N]` compares every function on N seeded inputs (a million by default) and exits with 1 on a difference.
+//! `oracle sample` prints the answers that the program `replay_numeric` replays.
+mod inputs;
+mod leaves;
+mod probe;
+mod records;
+mod rows;
+mod sample;
+
+#[allow(dead_code, unused_imports, unused_variables)]
+mod cluster {
+    include!(concat!(env!("OUT_DIR"), "/cluster.rs"));
+}
+
+/// Counts comparisons, and prints the first differences.
+pub struct Tally {
+    pub compared: u64,
+    pub differ: u64,
+}
+
+impl Tally {
+    pub fn same<T: PartialEq + std::fmt::Debug>(&mut self, what: &str, input: &dyn std::fmt::Debug, port: T, rust: T) {
+        self.compared += 1;
+        if port != rust {
+            self.differ += 1;
+            if self.differ <= 20 {
+                println!("{what} {input:x?}: port {port:x?}, Rust {rust:x?}");
+            }
+        }
+    }
+}
+
+/// A float's bit pattern, with one for every NaN.
+pub fn bits(x: f32) -> u32 {
+    if x.is_nan() { 0x7fc0_0000 } else { x.to_bits() }
+}
+
+fn main() {
+    let words: Vec<String> = std::env::args().collect();
+    match words.get(1).map(String::as_str) {
+        Some("compare") => {
+            let count = words.get(2).map_or(1_000_000, |n| n.parse().expect("a count"));
+            let mut tally = Tally { compared: 0, differ: 0 };
+            leaves::compare(&mut tally, count);
+            rows::compare(&mut tally, count);
+            records::compare(&mut tally, count / 10);
+            println!("oracle: {} answers compared, {} differ", tally.compared, tally.differ);
+            if tally.differ > 0 {
+                std::process::exit(1);
+            }
+        }
+        Some("sample") => sample::print(),
+        _ => {
+            eprintln!("usage: oracle compare [N] | oracle sample");
+            std::process::exit(2);
+        }
+    }
+}

@@ -1,0 +1,112 @@
+//! The stored answers that the program `replay_numeric` replays: document 01's corners first, then seeded inputs.
+use crate::inputs::{any, length, place, row, Rng};
+use crate::leaves::area;
+use crate::rows::unfiltered;
+use crate::{bits, cluster::utility, records};
+
+const HEAD: &str = "\
+# Answers of the Rust, replayed by the program beside this file.
+# Made by 'oracle sample' (oracle/src/sample.rs, seed 4) from utility.rs of ms-io, repository MS-Simulation/mscore at
+# f9e2c8ac42, unchanged, in a release build. Numbers of document 01 and soundness of records (number 9), of which the Rust
+# knows nothing, are the comparison's own, written from document 01.
+# A line: function, arguments, answer, as hexadecimal words; floats as bit patterns, every NaN as 7fc00000.
+#  1 max a b      2 min a b    3 abs x     4 clamp x lo hi   5 floor x   6 ceil x   7 round x
+#  8 x as u32     9 n as f32   a bits x    b lerp a b t      c quad_subsample y0 y1 y2
+# 10 area x0 x1 y..  11 its number (0: none)  12 candidate i y..  13 prominence i y..
+# 14 left crossing of the half height i y..   15 right crossing   16 record sound w..";
+
+fn line(function: u32, words: &[u32]) {
+    let text: Vec<String> = words.iter().map(|w| format!("{w:x}")).collect();
+    println!("{function:x} {}", text.join(" "));
+}
+
+pub fn print() {
+    println!("{HEAD}");
+    println!("# Minus zero on a symmetric apex, plus zero where it bends less than 1e-12, and where the bend rounds to 0.");
+    for y in [[4.0, 8.0, 4.0], [0.0, 1e-45, 0.0], [0.0, 1e-13, 0.0], [16777215.0, 16777216.0, 16777216.0]] {
+        quad(y[0], y[1], y[2]);
+    }
+    println!("# Round is not the floor of x + 0.5.");
+    for x in [0.49999997, 0.5, 1.5, 2.5, -0.5, -2.5, 8388607.5, 8388609.0, -0.3, -0.0] {
+        whole(x);
+    }
+    println!("# Half height rounds to the apex (8388609 8388610 8388609) or not (8388608 8388609 8388608); plateau to the end.");
+    for y in [vec![8388609.0, 8388610.0, 8388609.0], vec![8388608.0, 8388609.0, 8388608.0], vec![0.0, 5.0, 5.0], vec![0.0, 4.0, 0.0, 8.0, 0.0]] {
+        apexes(&y);
+    }
+    println!("# The area's last segment is missing where the right end is the last index and the left end below the last but one.");
+    for (x0, x1) in [(1.0, 3.0), (2.0, 3.0), (0.0, 3.0), (0.0, 2.5)] {
+        areas(&[1.0, 2.0, 4.0, 8.0], x0, x1);
+    }
+    areas(&[8388608.0, 8388609.0, 8388608.0], 0.0, 2.0);
+    println!("# Refused: a reading, then a place, minus zero among them.");
+    areas(&[1.0, -0.0], 0.0, 1.0);
+    areas(&[1.0, 4294967552.0], 0.0, -0.0);
+    areas(&[1.0, 4294967296.0], -0.0, 1.0);
+    areas(&[1.0, 2.0], 0.0, 65535.004);
+    println!("# Seeded inputs.");
+    let mut r = Rng::new(4);
+    for _ in 0..150 {
+        let (x, y, z) = (any(&mut r), any(&mut r), any(&mut r));
+        if x != y {
+            line(1, &[bits(x), bits(y), bits(x.max(y))]);
+            line(2, &[bits(x), bits(y), bits(x.min(y))]);
+        }
+        line(3, &[bits(x), bits(x.abs())]);
+        if y <= z {
+            line(4, &[bits(x), bits(y), bits(z), bits(x.clamp(y, z))]);
+        }
+        whole(x);
+        line(8, &[bits(x), x as u32]);
+        let n = r.next() as u32 >> r.below(32);
+        line(9, &[n, bits(n as f32)]);
+        line(10, &[x.to_bits(), bits(x)]);
+        line(11, &[bits(x), bits(y), bits(z), bits(utility::lerp(x, y, z))]);
+        quad(x, y, z);
+        let n = length(&mut r).min(40);
+        let samples = row(&mut r, n);
+        apexes(&samples);
+        areas(&samples, place(&mut r, n), place(&mut r, n));
+        let record = records::record(&mut r);
+        line(22, &[&record[..], &[records::sound(&record) as u32]].concat());
+    }
+}
+
+fn quad(y0: f32, y1: f32, y2: f32) {
+    line(12, &[bits(y0), bits(y1), bits(y2), bits(utility::quad_subsample(y0, y1, y2))]);
+}
+
+fn whole(x: f32) {
+    line(5, &[bits(x), bits(x.floor())]);
+    line(6, &[bits(x), bits(x.ceil())]);
+    line(7, &[bits(x), bits(x.round())]);
+}
+
+fn words(y: &[f32]) -> Vec<u32> {
+    y.iter().map(|v| bits(*v)).collect()
+}
+
+fn areas(y: &[f32], x0: f32, x1: f32) {
+    let input = [&[bits(x0), bits(x1)], &words(y)[..]].concat();
+    match area(y, x0, x1) {
+        Ok(a) => {
+            line(16, &[&input[..], &[bits(a)]].concat());
+            line(17, &[&input[..], &[0]].concat());
+        }
+        Err(n) => line(17, &[&input[..], &[n]].concat()),
+    }
+}
+
+fn apexes(y: &[f32]) {
+    let peaks = unfiltered(y);
+    for i in 1..y.len().max(2) - 1 {
+        let input = [&[i as u32], &words(y)[..]].concat();
+        let peak = peaks.iter().find(|p| p.scan == i);
+        line(18, &[&input[..], &[peak.is_some() as u32]].concat());
+        if let Some(p) = peak {
+            line(19, &[&input[..], &[bits(p.prominence)]].concat());
+            line(20, &[&input[..], &[bits(p.left_x)]].concat());
+            line(21, &[&input[..], &[bits(p.right_x)]].concat());
+        }
+    }
+}

@@ -1,0 +1,1 @@
+//! Stands inside `peak`: what it holds private can be reached from here.

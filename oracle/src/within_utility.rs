@@ -1,0 +1,1 @@
+//! Stands inside `utility`: what it holds private can be reached from here.
