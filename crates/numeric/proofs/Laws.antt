@@ -1,7 +1,7 @@
 -- Laws of the helpers on binary32 values. Assumes nothing.
 use mathlib.Core.Path.{_≡_, refl, sym, ap, _∙_, subst}
 use mathlib.Core.Bool.{Bool, true, false, not, _&&_, _||_}
-use mathlib.Core.List.{List, [], _∷_}
+use mathlib.Core.List.{List}
 use Prim.Native.Nat.{ℕ, zero, suc, _+_, _-_, _*_, _/_, _%_, _^_, _≤_, _<_, min}
 use native.Mathlib.Nat.{div-lt-iff-lt-mul, le-div-iff-mul-le}
 use native.Mathlib.Numerals.{add-one}
@@ -145,6 +145,6 @@ pub and-true : (a : Bool) → (a && true) ≡ a
 and-true true = refl
 and-true false = refl
 
-pub and-false : (a b c : Bool) → b ≡ false → (a && (b && c)) ≡ (false && c)
-and-false true b c e = rw e
-and-false false b c e = refl
+pub and-assoc : (a b c : Bool) → (a && (b && c)) ≡ ((a && b) && c)
+and-assoc true b c = refl
+and-assoc false b c = refl

@@ -20,9 +20,7 @@ pub fn all_in_range(y: &[f32], limit: u32) -> bool
 {
     let mut all = true;
     for i in 0..y.len() {
-        if !super::in_range(y[i], limit) {
-            all = false;
-        }
+        all = all & super::in_range(y[i], limit);
     }
     all
 }

@@ -1,6 +1,6 @@
 -- Laws of lists that a loop reads from the front. Assumes nothing.
 use mathlib.Core.Path.{_≡_, refl}
-use mathlib.Core.Bool.{Bool, true, false, _&&_}
+use mathlib.Core.Bool.{true, _&&_}
 use mathlib.Core.List.{List, [], _∷_}
 use Prim.Native.Nat.{ℕ, _≤_, _<_, _+_}
 use native.Mathlib.Numerals.{add-one}
@@ -9,10 +9,6 @@ use lib.Dec.{leb, ltb}
 use lib.ListN.{length, getD, drop, drop-of-length-le}
 use lib.Seq.{drop-cons}
 use Rattle.params.specs.Params.{allUpTo, risingFrom, rising}
-
-pub and-assoc : (a b c : Bool) → (a && (b && c)) ≡ ((a && b) && c)
-and-assoc true b c = refl
-and-assoc false b c = refl
 
 pub up-to-step : (limit : ℕ) (l : List ℕ) (i : ℕ) → i < length l → allUpTo limit (drop i l) ≡ (leb (getD l i 0) limit && allUpTo limit (drop (i + 1) l))
 unfolding allUpTo

@@ -3,7 +3,7 @@ use super::ImPeak1D;
 use super::PeakId;
 ghost use mathlib.Core.Path.{_≡_};
 ghost use mathlib.Core.List.{_++_};
-ghost use Prim.Native.Nat.{_≤_, _<_, _+_, _*_};
+ghost use Prim.Native.Nat.{_≤_, _+_, _*_};
 ghost use lib.Dec.{ltb, eqb};
 ghost use lib.ListN.{length, take, drop};
 ghost use Rattle.record.specs.Record.{size, idPlace, idWords, idAt, wordsOf, peakFrom, peakAt, withPeak};
@@ -186,14 +186,14 @@ fn sound_shape(p: ImPeak1D) -> bool
         & (numeric::word_of(p.subscan) % 0x8000_0000 <= HALF)
 }
 
-// Whether number 9 leaves a peak alone.
+// Whether number 9 does not apply to a peak: every field in range, and no low bound above its high one.
 pub fn is_sound(p: ImPeak1D) -> bool
     ensures { λ r. ⌜ r ≡ sound p ⌝ }
 {
     sound_tof(p) & sound_frames(p) & sound_options(p) & sound_scans(p) & sound_shape(p)
 }
 
-// Whether number 9 leaves the first n peaks of a list alone.
+// Whether it applies to none of the first n peaks of a list.
 pub fn all_sound(list: &[u32], n: usize) -> bool
     requires { ⌜ n * size ≤ length (now list) ⌝ }
     ensures { λ r. ⌜ r ≡ allSound (now (list .entry)) n ⌝ }

@@ -1,7 +1,7 @@
 use mathlib.Core.Bool.{_&&_}
-use Rattle.numeric.proofs.Laws.{and-true}
+use Rattle.numeric.proofs.Laws.{and-true, and-assoc}
 use Rattle.params.specs.Params.{allUpTo}
-use Rattle.params.proofs.Laws.{and-assoc, up-to-step, up-to-end}
+use Rattle.params.proofs.Laws.{up-to-step, up-to-end}
 use mathlib.Core.Path.{_≡_, sym, _∙_, ap}
 use mathlib.Core.Bool.{Bool}
 use Prim.Native.Nat.{_≤_, _-_, _+_}

@@ -1,7 +1,7 @@
 use mathlib.Core.Bool.{_&&_}
-use Rattle.numeric.proofs.Laws.{and-true}
+use Rattle.numeric.proofs.Laws.{and-true, and-assoc}
 use Rattle.params.specs.Params.{rising, risingFrom}
-use Rattle.params.proofs.Laws.{and-assoc, rising-none, rising-start, rising-step, rising-end}
+use Rattle.params.proofs.Laws.{rising-none, rising-start, rising-step, rising-end}
 use mathlib.Core.Path.{_≡_, sym, _∙_, ap}
 use mathlib.Core.Bool.{Bool}
 use Prim.Native.Nat.{_≤_, _-_, _+_}
