@@ -2,12 +2,16 @@
 //!
 //! `oracle compare [N]` compares every function on N seeded inputs (a million by default) and exits with 1 on a difference.
 //! `oracle sample` prints the answers that the program `replay_numeric` replays.
+//! `oracle bench` times both sides and prints ratios.
+mod bench;
 mod inputs;
 mod leaves;
 mod probe;
 mod records;
+mod row_level;
 mod rows;
 mod sample;
+mod words;
 
 #[allow(dead_code, unused_imports, unused_variables)]
 mod cluster {
@@ -46,14 +50,16 @@ fn main() {
             leaves::compare(&mut tally, count);
             rows::compare(&mut tally, count);
             records::compare(&mut tally, count / 10);
+            row_level::compare(&mut tally, count / 2);
             println!("oracle: {} answers compared, {} differ", tally.compared, tally.differ);
             if tally.differ > 0 {
                 std::process::exit(1);
             }
         }
         Some("sample") => sample::print(),
+        Some("bench") => bench::run(),
         _ => {
-            eprintln!("usage: oracle compare [N] | oracle sample");
+            eprintln!("usage: oracle compare [N] | oracle sample | oracle bench");
             std::process::exit(2);
         }
     }

@@ -90,3 +90,40 @@ pub fn sound(list: &[u32], k: usize) -> Option<bool> {
         _ => None,
     }
 }
+
+extern "C" {
+    fn probe_find_im_peaks_row(
+        y: *const f32, y_len: usize, z: *const f32, z_len: usize,
+        tof_row: u32, tof_center: u32, tof_lo: u32, tof_hi: u32,
+        rt_lo: u32, rt_hi: u32, frame_id_lo: u32, frame_id_hi: u32, grouped: bool, window_group: u32,
+        mobility: *const f32, mobility_len: usize,
+        min_prom: f32, min_distance: u32, min_width: u32,
+        axis: *const u32, axis_len: usize,
+        first: u32,
+        out: *mut u32, out_len: usize,
+    ) -> u64;
+    fn probe_smooth(v: *mut f32, v_len: usize, weights: *const f32, weights_len: usize, scratch: *mut f32, scratch_len: usize) -> u32;
+}
+
+/// The number (0: none) and the count of peaks.
+pub fn find_im_peaks_row(row: &crate::row_level::Row, out: &mut [u32]) -> (u32, usize) {
+    let ([tof_row, center, lo, hi], [rt_lo, rt_hi, id_lo, id_hi]) = (row.place, row.bounds);
+    let r = unsafe {
+        probe_find_im_peaks_row(
+            row.smoothed.as_ptr(), row.smoothed.len(), row.raw.as_ptr(), row.raw.len(),
+            tof_row, center, lo, hi,
+            rt_lo, rt_hi, id_lo, id_hi, row.group.is_some(), row.group.unwrap_or(0),
+            row.mobility.as_ptr(), row.mobility.len(),
+            row.min_prom, row.min_distance, row.min_width,
+            row.axis.as_ptr(), row.axis.len(),
+            row.first,
+            out.as_mut_ptr(), out.len(),
+        )
+    };
+    ((r % 64) as u32, (r / 64) as usize)
+}
+
+/// The number, 0 for none.
+pub fn smooth_vector_gaussian(v: &mut [f32], weights: &[f32], scratch: &mut [f32]) -> u32 {
+    unsafe { probe_smooth(v.as_mut_ptr(), v.len(), weights.as_ptr(), weights.len(), scratch.as_mut_ptr(), scratch.len()) }
+}

@@ -150,7 +150,7 @@ fn ends(src: &[f32], u: &[f32], from: usize, to: usize, dst: &mut [f32])
 // ---- the whole row
 
 // The smoothed row, for weights u that are divided by their sum.
-fn smooth_by(src: &[f32], u: &[f32], dst: &mut [f32])
+pub fn smooth_by(src: &[f32], u: &[f32], dst: &mut [f32])
     requires { ⌜ length (now src) ≤ length (now dst) ⌝ }
     ensures { λ _. ⌜ now (dst .exit) ≡ tabulate (length (now (src .entry))) (smoothedAt (now (u .entry)) (now (src .entry))) ++ drop (length (now (src .entry))) (now (dst .entry)) ⌝ }
 {
@@ -165,7 +165,8 @@ fn smooth_by(src: &[f32], u: &[f32], dst: &mut [f32])
     ends(src, u, n - r, n, dst);
 }
 
-fn normalise(weights: &[f32], u: &mut [f32])
+// The weights divided by their sum.
+pub fn normalise(weights: &[f32], u: &mut [f32])
     requires { ⌜ length (now weights) ≡ length (now u) ⌝ }
     ensures { λ _. ⌜ now (u .exit) ≡ normalised (now (weights .entry)) ⌝ }
 {

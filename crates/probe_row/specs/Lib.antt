@@ -1,0 +1,2 @@
+-- The definitions that the contracts of `probe_row` cite.
+pub mod ProbeRow

@@ -1,0 +1,32 @@
+use Rattle.row.proofs.Laws.{ready}
+use borrow.Author.Tests.{ne-eqb}
+use mathlib.Core.Path.{refl, sym, _∙_}
+use borrow.Author.Needs.{needs}
+use Rattle.row.proofs.find_im_peaks_row.Statement.{statement}
+use Rattle.row.proofs.find_im_peaks_row.Tie as tie
+
+number-requires : tie.Need-number-requires
+number-requires c κs = search needs
+
+find-im-peaks-row-requires : tie.Need-find-im-peaks-row-requires
+find-im-peaks-row-requires c κs = let b = c .before .before in
+    let s = b .before .before .before .before .before .before in
+    ready (s .args .y-smoothed .now) (s .args .y-raw .now) (s .args .place) (s .args .bounds) (s .args .mobility .now) (s .args .p) (s .args .scan-axis .now) (s .args .first) _ (sym (b .number .ensures) ∙ c .before .if1 .taken)
+
+same-length : tie.Need-same-length
+same-length c = search needs
+
+returns : tie.Need-returns
+returns c = let f = c .before .before in
+    let b = f .before .before .before in
+    let e = sym (b .number .ensures) ∙ f .before .before .if1 .taken in
+    let g = f .find-im-peaks-row .ensures in
+    rw (e, g .0) (refl, rw (g .0) at (g .1))
+
+returns-2 : tie.Need-returns-2
+returns-2 c = let e = ne-eqb _ _ (c .if1 .left) in
+    rw (← c .before .number .ensures, e) (refl, refl)
+
+pub find-im-peaks-row-spec : {M : Type 1} → statement M
+find-im-peaks-row-spec =
+    tie.close (tie.spec number-requires find-im-peaks-row-requires same-length returns returns-2)

@@ -1,0 +1,133 @@
+-- The mobility peaks of one TOF row: y is the smoothed row, z the raw one, both over the same scans.
+use mathlib.Core.Bool.{Bool, true, false, cond, not, _&&_}
+use mathlib.Core.List.{List, [], _∷_, _++_}
+use Prim.Native.Nat.{ℕ, zero, suc, _+_, _-_, _*_, min}
+use lib.Dec.{leb, ltb, eqb}
+use lib.ListN.{length, getD, drop}
+use lib.Ieee.{Float, binary32, lt, le, ofBits}
+use Rattle.numeric.specs.Arith.{_⊖_, 𝟎, ½, indexF, at}
+use Rattle.numeric.specs.Numeric.{maxF, minF, clampF, castF, quadF}
+use Rattle.rounding.specs.Rounding.{floorF, ceilF, roundF}
+use Rattle.apex.specs.Apex.{candidates, prominence, halfHeight, leftCrossing, rightCrossing}
+use Rattle.area.specs.Area.{areaF}
+use Rattle.record.specs.declared.ImPeak1D.{ImPeak1D}
+use Rattle.record.specs.Record.{wordsOf}
+use Rattle.row.specs.Suppression.{keepAll}
+use Rattle.params.specs.declared.ImDetectParams.{ImDetectParams}
+use Rattle.params.specs.declared.RowPlace.{RowPlace}
+use Rattle.params.specs.declared.FrameBounds.{FrameBounds}
+use Rattle.params.specs.declared.WindowGroup.{WindowGroup}
+use Rattle.params.specs.declared.WindowGroup.the-variants.{Missing, Group}
+
+-- ---- qualifying apexes
+
+-- the highest of a reading and further ones
+unfoldable pub highest : Float → List Float → Float
+highest m [] = m
+highest m (v ∷ vs) = highest (cond (lt m v) v m) vs
+
+-- a value that is not below the floor
+abbrev pub reaches : Float → Float → Bool
+reaches floor x = not (lt x floor)
+
+-- where the row crosses the apex's half height, in samples, and the width between, rounded
+unfoldable pub leftX : List Float → ℕ → Float
+leftX y i = leftCrossing y (halfHeight y i) i
+
+unfoldable pub rightX : List Float → ℕ → Float
+rightX y i = rightCrossing y (halfHeight y i) i
+
+unfoldable pub width : List Float → ℕ → ℕ
+width y i = castF (roundF (maxF (rightX y i ⊖ leftX y i) 𝟎))
+
+-- A candidate qualifies (document 01, "a qualifying apex") by its prominence and its width, ..
+unfoldable pub qualifies : ImDetectParams → List Float → ℕ → Bool
+qualifies p y i = reaches (p .«min_prom») (prominence y i) && leb (p .«min_width_scans») (width y i)
+
+-- .. in a row whose raw maximum reaches the floor
+unfoldable pub chosenOf : ImDetectParams → List Float → List ℕ → List ℕ
+chosenOf p y [] = []
+chosenOf p y (i ∷ is) = cond (qualifies p y i) (i ∷ chosenOf p y is) (chosenOf p y is)
+
+unfoldable pub qualifying : ImDetectParams → List Float → List Float → List ℕ
+qualifying p y z = cond (reaches (p .«min_prom») (highest 𝟎 z)) (chosenOf p y (candidates y)) []
+
+-- ---- listed apexes
+
+-- the apexes that are listed, the newest first
+unfoldable pub kept : ImDetectParams → List Float → List Float → List ℕ
+kept p y z = keepAll (p .«min_distance_scans») y [] (qualifying p y z)
+
+-- ---- records
+
+-- the sample at or next to a place, within a row of n
+abbrev pub sampleAt : ℕ → Float → ℕ
+sampleAt n x = castF (clampF x 𝟎 (indexF (n - 1)))
+
+-- the scan of a sample, the last one's past the axis
+abbrev pub scanAt : List ℕ → ℕ → ℕ
+scanAt axis k = getD axis (min k (length axis - 1)) 0
+
+-- how far the apex lies from its sample
+unfoldable pub subscan : List Float → ℕ → Float
+subscan y i = clampF (quadF (at y (i - 1)) (at y i) (at y (i + 1))) (ofBits binary32 0xbf00_0000) ½
+
+-- an empty mobility table means that there is none
+abbrev pub mobilityAt : List Float → ℕ → Float
+mobilityAt [] i = 𝟎
+mobilityAt (m ∷ ms) i = getD (m ∷ ms) i 𝟎
+
+-- which of the fields that may be missing are there; the scan sigma never is
+abbrev pub groupFlag : WindowGroup → ℕ
+groupFlag Missing = 0
+groupFlag (Group g) = 1
+
+abbrev pub groupWord : WindowGroup → ℕ
+groupWord Missing = 0
+groupWord (Group g) = g
+
+abbrev pub mobilityFlag : List Float → ℕ
+mobilityFlag [] = 0
+mobilityFlag (m ∷ ms) = 2
+
+-- the peak of an apex, with its identity
+unfoldable pub peakOf : RowPlace → FrameBounds → List Float → List ℕ → List Float → List Float → ℕ → ℕ → ImPeak1D
+peakOf r f mobility axis y z i id =
+    let lx = leftX y i in
+    let rx = rightX y i in
+    let n = length y in
+    record {
+      «tof_row» = r .«tof_row»;
+      «tof_center» = r .«tof_center»;
+      «tof_lo» = r .«tof_lo»;
+      «tof_hi» = r .«tof_hi»;
+      «rt_lo» = f .«rt_lo»;
+      «rt_hi» = f .«rt_hi»;
+      «frame_id_lo» = f .«frame_id_lo»;
+      «frame_id_hi» = f .«frame_id_hi»;
+      flags = groupFlag (f .«window_group») + mobilityFlag mobility;
+      «window_group» = groupWord (f .«window_group»);
+      scan = i;
+      left = sampleAt n (floorF lx);
+      right = sampleAt n (ceilF rx);
+      «scan_abs» = scanAt axis i;
+      «left_abs» = scanAt axis (sampleAt n (floorF lx));
+      «right_abs» = scanAt axis (sampleAt n (ceilF rx));
+      «scan_sigma» = 𝟎;
+      mobility = mobilityAt mobility i;
+      «apex_smoothed» = at y i;
+      «apex_raw» = at z i;
+      prominence = prominence y i;
+      «left_x» = lx;
+      «right_x» = rx;
+      «width_scans» = width y i;
+      «area_raw» = areaF z (maxF lx 𝟎) (minF rx (indexF (n - 1)));
+      subscan = subscan y i;
+      id = id;
+    }
+
+-- the words of the listed peaks, the newest first in the argument: identities run on from the first in list order
+unfoldable pub rowWords : RowPlace → FrameBounds → List Float → List ℕ → List Float → List Float → ℕ → List ℕ → List ℕ
+rowWords r f mobility axis y z first [] = []
+rowWords r f mobility axis y z first (i ∷ older) =
+    rowWords r f mobility axis y z first older ++ wordsOf (peakOf r f mobility axis y z i (first + length older))

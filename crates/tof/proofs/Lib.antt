@@ -1,0 +1,2 @@
+-- What the proofs of `tof` cite.
+pub mod Laws

@@ -1,0 +1,6 @@
+-- The definitions that the contracts of `tof` cite.
+pub mod Tof
+pub mod TofAnswers
+pub mod TofLaws
+pub mod Exact
+pub mod Cases

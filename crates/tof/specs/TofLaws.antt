@@ -1,0 +1,287 @@
+-- What the definitions of the scale come to, for a reader and for the proofs. Assumes nothing.
+use mathlib.Core.Path.{_≡_, refl, sym, _∙_, subst}
+use mathlib.Core.Bool.{Bool, true, false, cond, not, _&&_}
+use mathlib.Core.List.{List, [], _∷_}
+use Prim.Native.Nat.{ℕ, zero, suc, _+_, _-_, _*_, _/_, _%_, _≤_, _<_, min, max}
+use native.Mathlib.Nat.{div-le-self, le-div-iff-mul-le, div-lt-iff-lt-mul, div-mul-le-self, div-add-mod', dvd-sub, dvd-of-mod-eq-zero, mod-eq-zero-of-dvd, mul-mod-left, mul-le-mul-right, add-mul}
+use native.Mathlib.Omega.{arith}
+use borrow.Author.Tests.{leb-true, leb-false, le-leb, lt-leb, lt-ltb, ltb-true, eq-eqb, eqb-true}
+use lib.Dec.{leb, ltb, eqb}
+use lib.ListN.{length, getD}
+use Rattle.numeric.specs.Refusal.{firstOf}
+use Rattle.params.specs.Params.{allUpTo}
+use Rattle.tof.specs.declared.TofScale.{TofScale}
+use Rattle.tof.specs.declared.inner.Span.{Span}
+use Rattle.tof.specs.declared.BuildAnswer.{BuildAnswer}
+use Rattle.tof.specs.TofAnswers.{buildNumber, buildAnswer}
+use Rattle.tof.specs.Tof.{Sound, edge, inScale, binOf, lastBin, windowBetween, windowBins, rowPlace, soundStep, soundEnds, agreeing, scaleNumber, lowest, highest, rounded, scaleOf}
+
+both : (a b : Bool) → (a && b) ≡ true → (a ≡ true) × (b ≡ true)
+both true b h = (refl, h)
+both false b h = absurd (subst (λ (t : Bool). lib.Dec.T t) (sym h) tt)
+
+-- ---- soundness
+
+-- a sound scale in plain numbers
+pub record Plain (s : TofScale) : Type 0 where
+  pub step-low : 1 ≤ s .«tof_step»
+  pub step-high : s .«tof_step» ≤ 65536
+  pub min-high : s .«tof_min» ≤ 4194303
+  pub max-high : s .«tof_max» ≤ 4194303
+  pub ordered : s .«tof_min» ≤ s .«tof_max»
+  pub min-multiple : s .«tof_min» % s .«tof_step» ≡ 0
+  pub max-multiple : s .«tof_max» % s .«tof_step» ≡ 0
+  pub count : s .«num_bins» ≡ binOf s (s .«tof_max») + 1
+
+pub plain : (s : TofScale) → Sound s → Plain s
+unfolding soundStep soundEnds agreeing
+plain s h =
+    let p = both (leb 1 (s .«tof_step»)) (leb (s .«tof_step») 65536) (h .step) in
+    let e = both (leb (s .«tof_min») 4194303) (leb (s .«tof_max») 4194303) (h .ends) in
+    let a4 = both _ (eqb (s .«num_bins») (binOf s (s .«tof_max») + 1)) (h .agree) in
+    let a3 = both _ (eqb (s .«tof_max» % s .«tof_step») 0) (a4 .0) in
+    let a2 = both _ (eqb (s .«tof_min» % s .«tof_step») 0) (a3 .0) in
+    let a1 = both (ltb 0 (s .«tof_step»)) (leb (s .«tof_min») (s .«tof_max»)) (a2 .0) in
+    record {
+      step-low = leb-true 1 (s .«tof_step») (p .0);
+      step-high = leb-true _ _ (p .1);
+      min-high = leb-true _ _ (e .0);
+      max-high = leb-true _ _ (e .1);
+      ordered = leb-true _ _ (a1 .1);
+      min-multiple = eqb-true _ _ (a2 .1);
+      max-multiple = eqb-true _ _ (a3 .1);
+      count = eqb-true _ _ (a4 .1);
+    }
+
+-- from 1 to 4,194,304 bins
+pub bins-held : (s : TofScale) → Sound s → (1 ≤ s .«num_bins») × (s .«num_bins» ≤ 4194304)
+bins-held s h = let p = plain s h in let d = div-le-self (s .«tof_max» - s .«tof_min») (s .«tof_step») in (omega arith, omega arith)
+
+-- no number applies exactly when the scale is sound and the call's own values are in range
+pub no-number : (s : TofScale) (value tofs : Bool) → scaleNumber s value tofs ≡ 0 → Sound s × (value ≡ true) × (tofs ≡ true)
+unfolding scaleNumber firstOf
+no-number s value tofs h = go (soundStep (s .«tof_step») && value) (soundEnds s && tofs) (agreeing s) refl refl refl h
+  where
+    go : (a b c : Bool) → (soundStep (s .«tof_step») && value) ≡ a → (soundEnds s && tofs) ≡ b → agreeing s ≡ c
+        → _≡_ {A = ℕ} (cond (not a) 4 (cond (not b) 5 (cond (not c) 22 0))) 0 → Sound s × (value ≡ true) × (tofs ≡ true)
+    go false b c ea eb ec e = absurd (omega arith)
+    go true false c ea eb ec e = absurd (omega arith)
+    go true true false ea eb ec e = absurd (omega arith)
+    go true true true ea eb ec e =
+        let p = both _ _ ea in let q = both _ _ eb in (record { step = p .0; ends = q .0; agree = ec }, p .1, q .1)
+
+pub sound-number : (s : TofScale) → Sound s → scaleNumber s true true ≡ 0
+unfolding scaleNumber firstOf
+sound-number s h = rw (h .step, h .ends, h .agree)
+
+-- ---- edges and bins
+
+pub upper-edge : (s : TofScale) (i : ℕ) → edge s (i + 1) ≡ edge s i + s .«tof_step»
+upper-edge s i = let e : (i + 1) * s .«tof_step» ≡ i * s .«tof_step» + 1 * s .«tof_step» = add-mul i 1 (s .«tof_step») in omega arith
+
+pub scale-above : (s : TofScale) (t : ℕ) → inScale s t ≡ true → s .«tof_min» ≤ t
+scale-above s t b = leb-true (s .«tof_min») t (both (leb (s .«tof_min») t) (leb t (s .«tof_max»)) b .0)
+
+bins-rise : (k x y : ℕ) → 0 < k → x ≤ y → x / k ≤ y / k
+bins-rise k x y p h = le-div-iff-mul-le p .1 (let d : x / k * k ≤ x = div-mul-le-self x k in omega arith)
+
+module _ (s : TofScale) (h : Sound s) where
+  -- every bin's lower edge is at most the highest TOF, and its upper one at most what a peak's bounds may be
+  pub edge-le : (i : ℕ) → i < s .«num_bins» → edge s i ≤ s .«tof_max»
+  edge-le i b =
+      let p = plain s h in
+      let k : i ≤ (s .«tof_max» - s .«tof_min») / s .«tof_step» = omega arith in
+      let m : i * s .«tof_step» ≤ s .«tof_max» - s .«tof_min» = le-div-iff-mul-le (p .step-low) .0 k in
+      omega arith
+
+  pub edges-held : (i : ℕ) → i < s .«num_bins» → edge s (i + 1) ≤ 4259839
+  edges-held i b = let p = plain s h in let e = edge-le i b in let u = upper-edge s i in omega arith
+
+  -- the last bin begins at the highest TOF
+  pub last-edge : edge s (lastBin s) ≡ s .«tof_max»
+  last-edge =
+      let p = plain s h in
+      let k = s .«tof_step» in
+      let d = s .«tof_max» - s .«tof_min» in
+      let z : d % k ≡ 0 = mod-eq-zero-of-dvd k (dvd-sub k (dvd-of-mod-eq-zero k (p .max-multiple)) (dvd-of-mod-eq-zero k (p .min-multiple))) in
+      let e : d / k * k + d % k ≡ d = div-add-mod' d k in
+      let l : lastBin s ≡ d / k = omega arith in
+      rw l (omega arith)
+
+  bin-within : (t : ℕ) → t ≤ s .«tof_max» → binOf s t < s .«num_bins»
+  bin-within t b =
+      let p = plain s h in
+      let m = bins-rise (s .«tof_step») (t - s .«tof_min») (s .«tof_max» - s .«tof_min») (p .step-low) (omega arith) in
+      omega arith
+
+  -- a TOF in the scale has a bin, and stands between its edges
+  pub bin-below : (t : ℕ) → inScale s t ≡ true → binOf s t < s .«num_bins»
+  bin-below t b = bin-within t (leb-true t (s .«tof_max») (both (leb (s .«tof_min») t) (leb t (s .«tof_max»)) b .1))
+
+  pub bin-edges : (t : ℕ) → inScale s t ≡ true → (edge s (binOf s t) ≤ t) × (t < edge s (binOf s t + 1))
+  bin-edges t b =
+      let p = plain s h in
+      let l = scale-above s t b in
+      let d : binOf s t * s .«tof_step» ≤ t - s .«tof_min» = div-mul-le-self (t - s .«tof_min») (s .«tof_step») in
+      let u : t - s .«tof_min» < (binOf s t + 1) * s .«tof_step» = div-lt-iff-lt-mul (p .step-low) .0 (omega arith) in
+      (omega arith, omega arith)
+
+-- Twice the whole centre of a row is the sum of its edges, which is twice the exact centre, or one more where that sum is
+-- odd: the exact centre, a half rounded up, as the Rust's `round` gives it.
+pub center-rounded : (s : TofScale) (i : ℕ) → 2 * rowPlace s i .«tof_center» ≡ edge s i + edge s (i + 1) + s .«tof_step» % 2
+center-rounded s i = let u = upper-edge s i in omega arith
+
+-- ---- the window as the Rust has it
+
+-- `index_of_tof`, with what stands for none
+orElse : TofScale → ℕ → ℕ → ℕ
+orElse s t d = cond (leb (s .«tof_min») t && leb t (s .«tof_max») && ltb (binOf s t) (s .«num_bins»)) (binOf s t) d
+
+abbrev rustBetween : TofScale → ℕ → ℕ → Span
+rustBetween s lo hi =
+    cond (leb hi (s .«tof_min»))
+    (record { lo = 0; hi = 0 })
+    (cond (leb (s .«tof_max») lo)
+    (record { lo = lastBin s; hi = lastBin s })
+    (let i = orElse s (max lo (s .«tof_min»)) 0 in
+    let j = orElse s (min hi (s .«tof_max»)) (lastBin s) in
+    record { lo = min i j; hi = max j i }))
+
+pub rustWindow : TofScale → ℕ → ℕ → Span
+rustWindow s a b = cond (leb a b) (rustBetween s a b) (rustBetween s b a)
+
+module _ (s : TofScale) (h : Sound s) where
+  found : (t d : ℕ) → s .«tof_min» ≤ t → t ≤ s .«tof_max» → orElse s t d ≡ binOf s t
+  unfolding orElse
+  found t d l u = rw (le-leb _ _ l, le-leb _ _ u, lt-ltb _ _ (bin-within s h t u))
+
+  between : (lo hi : ℕ) → lo ≤ hi → windowBetween s lo hi ≡ rustBetween s lo hi
+  between lo hi o = go (leb hi (s .«tof_min»)) (leb (s .«tof_max») lo) refl refl
+    where
+      go : (p q : Bool) → leb hi (s .«tof_min») ≡ p → leb (s .«tof_max») lo ≡ q → windowBetween s lo hi ≡ rustBetween s lo hi
+      go true q ep eq = rw ep
+      go false true ep eq = rw (ep, eq)
+      go false false ep eq =
+          let f = plain s h in
+          let a = leb-false hi (s .«tof_min») ep in
+          let b = leb-false (s .«tof_max») lo eq in
+          let l = max lo (s .«tof_min») in
+          let u = min hi (s .«tof_max») in
+          let i : orElse s l 0 ≡ binOf s l = found l 0 (omega arith) (omega arith) in
+          let j : orElse s u (lastBin s) ≡ binOf s u = found u (lastBin s) (omega arith) (omega arith) in
+          let r : binOf s l ≤ binOf s u = bins-rise (s .«tof_step») (l - s .«tof_min») (u - s .«tof_min») (f .step-low) (omega arith) in
+          let m : min (binOf s l) (binOf s u) ≡ binOf s l = omega arith in
+          let n : max (binOf s u) (binOf s l) ≡ binOf s u = omega arith in
+          rw (ep, eq, i, j, m, n)
+
+  -- none of what stands for none is ever reached, and the two bins come in order
+  pub window-is-rusts : (a b : ℕ) → windowBins s a b ≡ rustWindow s a b
+  unfolding windowBins rustWindow
+  window-is-rusts a b = go (leb a b) refl
+    where
+      go : (o : Bool) → leb a b ≡ o → windowBins s a b ≡ cond o (rustBetween s a b) (rustBetween s b a)
+      go true e =
+          let o = leb-true a b e in
+          let l : min a b ≡ a = omega arith in
+          let u : max a b ≡ b = omega arith in
+          rw (l, u) (between a b o)
+      go false e =
+          let o = leb-false a b e in
+          let l : min a b ≡ b = omega arith in
+          let u : max a b ≡ a = omega arith in
+          rw (l, u) (between b a (omega arith))
+
+-- ---- a scale of TOF values
+
+rounded-is : (step t : ℕ) → rounded step t ≡ t / step * step
+rounded-is step t = let e : t / step * step + t % step ≡ t = div-add-mod' t step in omega arith
+
+pub rounded-rise : (step lo hi : ℕ) → 0 < step → lo ≤ hi → rounded step lo ≤ rounded step hi
+rounded-rise step lo hi p h = rw (rounded-is step lo, rounded-is step hi) (mul-le-mul-right step (bins-rise step lo hi p h))
+
+rounded-multiple : (step t : ℕ) → rounded step t % step ≡ 0
+rounded-multiple step t = rw (rounded-is step t) (mul-mod-left (t / step) step)
+
+-- a limit holds for all values when it holds for the highest
+max-leb : (a b limit : ℕ) → (leb a limit && leb b limit) ≡ leb (max a b) limit
+max-leb a b limit = go (leb a limit) (leb b limit) refl refl
+  where
+    go : (p q : Bool) → leb a limit ≡ p → leb b limit ≡ q → (leb a limit && leb b limit) ≡ leb (max a b) limit
+    go false q ep eq = let h = leb-false a limit ep in rw (ep, lt-leb (max a b) limit (omega arith))
+    go true false ep eq = let h = leb-false b limit eq in rw (ep, eq, lt-leb (max a b) limit (omega arith))
+    go true true ep eq =
+        let h = leb-true a limit ep in let k = leb-true b limit eq in rw (ep, eq, le-leb (max a b) limit (omega arith))
+
+pub up-to-highest : (limit : ℕ) (ts : List ℕ) → allUpTo limit ts ≡ leb (highest ts) limit
+unfolding allUpTo highest
+up-to-highest limit [] = sym (le-leb 0 limit (omega arith))
+up-to-highest limit (t ∷ ts) = rw (up-to-highest limit ts) (max-leb t (highest ts) limit)
+
+bounds : (ts : List ℕ) (i : ℕ) → i < length ts → (lowest ts ≤ getD ts i 0) × (getD ts i 0 ≤ highest ts)
+unfolding lowest highest
+bounds [] i h = absurd (omega arith)
+bounds (t ∷ ts) zero h = (omega arith, omega arith)
+bounds (t ∷ ts) (suc i) h = let r = bounds ts i (omega arith) in (omega arith, omega arith)
+
+-- there is no scale exactly where any two values are one
+pub no-scale-one : (ts : List ℕ) → highest ts ≤ lowest ts → (i j : ℕ) → i < length ts → j < length ts → getD ts i 0 ≡ getD ts j 0
+no-scale-one ts h i j a b = let p = bounds ts i a in let q = bounds ts j b in omega arith
+
+same : (v : ℕ) (ts : List ℕ) → v ≤ 4194303 → ((i : ℕ) → i < length ts → getD ts i 0 ≡ v) → (highest ts ≤ v) × (v ≤ lowest ts)
+unfolding lowest highest
+same v [] u h = (omega arith, omega arith)
+same v (t ∷ ts) u h =
+    let e : t ≡ v = h 0 (omega arith) in
+    let r = same v ts u (λ (i : ℕ) (k : i < length ts). h (suc i) (omega arith)) in
+    (omega arith, omega arith)
+
+pub one-no-scale : (ts : List ℕ) → allUpTo 4194303 ts ≡ true
+    → ((i j : ℕ) → i < length ts → j < length ts → getD ts i 0 ≡ getD ts j 0) → highest ts ≤ lowest ts
+unfolding lowest highest
+one-no-scale [] u h = omega arith
+one-no-scale (t ∷ ts) u h =
+    let k : highest (t ∷ ts) ≤ 4194303 = leb-true _ _ (sym (up-to-highest 4194303 (t ∷ ts)) ∙ u) in
+    let r = same t (t ∷ ts) (omega arith) (λ (i : ℕ) (l : i < length (t ∷ ts)). h i 0 l (omega arith)) in
+    omega arith
+
+pub step-above : (step : ℕ) → soundStep step ≡ true → 0 < step
+unfolding soundStep
+step-above step p = leb-true 1 step (both (leb 1 step) (leb step 65536) p .0)
+
+scale-sound : (lo hi step : ℕ) → soundStep step ≡ true → lo ≤ hi → hi ≤ 4194303 → Sound (scaleOf lo hi step)
+unfolding scaleOf soundEnds agreeing
+scale-sound lo hi step p o u =
+    let k = step-above step p in
+    record {
+      step = p;
+      ends = rw (le-leb (rounded step lo) 4194303 (omega arith), le-leb (rounded step hi) 4194303 (omega arith));
+      agree =
+          rw (
+            lt-ltb 0 step k,
+            le-leb (rounded step lo) (rounded step hi) (rounded-rise step lo hi k o),
+            eq-eqb _ _ (rounded-multiple step lo),
+            eq-eqb _ _ (rounded-multiple step hi),
+            eq-eqb ((rounded step hi - rounded step lo) / step + 1) _ refl,
+          );
+    }
+
+-- a scale that is built is sound, so that no entry refuses it for its numbers
+pub built-sound : (tofs : List ℕ) (step : ℕ) (s : TofScale) → buildAnswer tofs step ≡ BuildAnswer.Scale s → Sound s
+unfolding buildAnswer buildNumber firstOf
+built-sound tofs step s h =
+    go (ltb 16777216 (length tofs)) (soundStep step) (allUpTo 4194303 tofs) (ltb (lowest tofs) (highest tofs)) refl refl refl h
+  where
+    go : (a b c d : Bool) → soundStep step ≡ b → allUpTo 4194303 tofs ≡ c → ltb (lowest tofs) (highest tofs) ≡ d
+        → (let n = cond a 2 (cond (not b) 4 (cond (not c) 5 0)) in
+        cond (eqb n 0) (cond d (BuildAnswer.Scale (scaleOf (lowest tofs) (highest tofs) step)) BuildAnswer.NoScale) (BuildAnswer.Refused n))
+        ≡ BuildAnswer.Scale s
+        → Sound s
+    go true b c d eb ec ed e = let z : _≡_ {A = ℕ} 0 1 = cc in absurd (omega arith)
+    go false false c d eb ec ed e = let z : _≡_ {A = ℕ} 0 1 = cc in absurd (omega arith)
+    go false true false d eb ec ed e = let z : _≡_ {A = ℕ} 0 1 = cc in absurd (omega arith)
+    go false true true false eb ec ed e = let z : _≡_ {A = ℕ} 0 1 = cc in absurd (omega arith)
+    go false true true true eb ec ed e =
+        let o : lowest tofs < highest tofs = ltb-true _ _ ed in
+        let u : highest tofs ≤ 4194303 = leb-true _ _ (sym (up-to-highest 4194303 tofs) ∙ ec) in
+        let k : scaleOf (lowest tofs) (highest tofs) step ≡ s = cc in
+        subst Sound k (scale-sound (lowest tofs) (highest tofs) step eb (omega arith) u)
