@@ -3,8 +3,8 @@
 
 # The main job. Until the printed table is there, it replays the stored answers of the Rust.
 table:
-	rt check replay_numeric
-	target/bin/replay_numeric <crates/replay_numeric/stdin
+	rt check replay_answers
+	target/bin/replay_answers <crates/replay_answers/stdin
 
 # Layout, proofs, must-fail edits and replayed answers; then the comparison with the Rust, where its sources and cargo are.
 test:

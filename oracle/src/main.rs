@@ -1,7 +1,7 @@
 //! Compares the port with the Rust that it ports, bit for bit.
 //!
 //! `oracle compare [N]` compares every function on N seeded inputs (a million by default) and exits with 1 on a difference.
-//! `oracle sample` prints the answers that the program `replay_numeric` replays.
+//! `oracle sample` prints the answers that the program `replay_answers` replays.
 //! `oracle bench` times both sides and prints ratios.
 mod bench;
 mod inputs;

@@ -114,6 +114,25 @@ pub fn sigma(r: &mut Rng) -> (f32, f32) {
     (sigma, r.pick(&[0.5, 1.0, 2.0, 3.0, 4.0]))
 }
 
+/// One of document 01's cases: an unsmoothed row over scans from 0, least width 0.
+pub fn case(raw: Vec<f32>, min_prom: f32, min_distance: u32) -> Row {
+    let n = raw.len();
+    Row {
+        smoothed: raw.clone(),
+        raw,
+        place: [0, 1, 0, 1],
+        bounds: [0; 4],
+        group: None,
+        mobility: Vec::new(),
+        min_prom,
+        min_distance,
+        min_width: 0,
+        axis: (0..n as u32).collect(),
+        first: 0,
+        room: WORDS * most(n),
+    }
+}
+
 pub fn sample(r: &mut Rng) -> Row {
     let n = if r.one_in(4_000) { 16_383 + r.below(3) as usize } else { length(r) };
     let raw = row(r, n);
@@ -151,7 +170,7 @@ pub fn sample(r: &mut Rng) -> Row {
 }
 
 /// Spoils one thing, so that a number applies as a rule.
-fn spoil(r: &mut Rng, row: &mut Row) {
+pub fn spoil(r: &mut Rng, row: &mut Row) {
     let n = row.smoothed.len();
     let at = r.below(n.max(1) as u64) as usize;
     match r.below(16) {

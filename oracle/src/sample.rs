@@ -1,6 +1,7 @@
-//! The stored answers that the program `replay_numeric` replays: document 01's corners first, then seeded inputs.
+//! The stored answers that the program `replay_answers` replays: document 01's corners first, then seeded inputs.
 use crate::inputs::{any, length, place, row, Rng};
 use crate::leaves::area;
+use crate::row_level;
 use crate::rows::unfiltered;
 use crate::{bits, cluster::utility, records};
 
@@ -13,7 +14,11 @@ const HEAD: &str = "\
 #  1 max a b      2 min a b    3 abs x     4 clamp x lo hi   5 floor x   6 ceil x   7 round x
 #  8 x as u32     9 n as f32   a bits x    b lerp a b t      c quad_subsample y0 y1 y2
 # 10 area x0 x1 y..  11 its number (0: none)  12 candidate i y..  13 prominence i y..
-# 14 left crossing of the half height i y..   15 right crossing   16 record sound w..";
+# 14 left crossing of the half height i y..   15 right crossing   16 record sound w..
+# 20 row finder: lengths of smoothed row, raw row, scan axis and mobility table, places of the list; TOF row, centre and bounds;
+#    frames and frame numbers; group (0 or 1) and its number; floor, least distance, least width; first identity; the four
+#    lists; then the number, the count and the words of the list
+# 21 smoothing: lengths of row, weights and scratch; row and weights; then the number and the row afterwards";
 
 fn line(function: u32, words: &[u32]) {
     let text: Vec<String> = words.iter().map(|w| format!("{w:x}")).collect();
@@ -46,7 +51,7 @@ pub fn print() {
     areas(&[1.0, 2.0], 0.0, 65535.004);
     println!("# Seeded inputs.");
     let mut r = Rng::new(4);
-    for _ in 0..150 {
+    for _ in 0..60 {
         let (x, y, z) = (any(&mut r), any(&mut r), any(&mut r));
         if x != y {
             line(1, &[bits(x), bits(y), bits(x.max(y))]);
@@ -70,6 +75,63 @@ pub fn print() {
         let record = records::record(&mut r);
         line(22, &[&record[..], &[records::sound(&record) as u32]].concat());
     }
+    println!("# Document 01's cases (a) to (g): row, floor, least distance.");
+    for (y, floor, distance) in CASES {
+        let raw: Vec<f32> = y.iter().map(|v| *v as f32).collect();
+        row_line(&row_level::case(raw, *floor, *distance));
+    }
+    println!("# Rows, whole and spoilt.");
+    for _ in 0..250 {
+        let mut row = row_level::sample(&mut r);
+        while r.one_in(4) {
+            row_level::spoil(&mut r, &mut row);
+        }
+        let longest = [row.smoothed.len(), row.raw.len(), row.axis.len(), row.mobility.len()].into_iter().max();
+        if longest < Some(30) && row.room % records::WORDS == 0 {
+            row_line(&row);
+        }
+    }
+    println!("# Smoothing.");
+    for _ in 0..60 {
+        let n = length(&mut r).min(30);
+        let (sigma, truncate) = row_level::sigma(&mut r);
+        let weights = row_level::gaussian(sigma, truncate);
+        if weights.len() < 40 {
+            smoothing_line(&row(&mut r, n), &weights, sigma, truncate);
+        }
+    }
+}
+
+const CASES: &[(&[u32], f32, u32)] = &[
+    (&[0, 5, 5], 0.0, 0),
+    (&[0, 5, 5, 9, 0], 1.0, 0),
+    (&[8388609, 8388610, 8388609], 0.0, 0),
+    (&[8388608, 8388609, 8388608], 0.0, 0),
+    (&[0, 4, 0, 8, 0], 0.0, 2),
+    (&[0, 4, 0, 8, 0], 0.0, 3),
+    (&[0, 4, 0, 6, 0, 8, 0], 0.0, 3),
+    (&[0, 4, 0, 4, 0], 0.0, 3),
+];
+
+fn row_line(row: &row_level::Row) {
+    let lengths = [row.smoothed.len(), row.raw.len(), row.axis.len(), row.mobility.len(), row.room / records::WORDS];
+    let mut w: Vec<u32> = lengths.iter().map(|n| *n as u32).collect();
+    w.extend(row.place);
+    w.extend(row.bounds);
+    w.extend([row.group.is_some() as u32, row.group.unwrap_or(0), bits(row.min_prom), row.min_distance, row.min_width, row.first]);
+    w.extend(words(&row.smoothed).into_iter().chain(words(&row.raw)).chain(row.axis.iter().copied()).chain(words(&row.mobility)));
+    let number = row.number();
+    let list = if number == 0 { row.peaks() } else { Vec::new() };
+    w.extend([number, (list.len() / records::WORDS) as u32]);
+    w.extend(list);
+    line(32, &w);
+}
+
+fn smoothing_line(v: &[f32], weights: &[f32], sigma: f32, truncate: f32) {
+    let mut after = v.to_vec();
+    utility::smooth_vector_gaussian(&mut after, sigma, truncate);
+    let lengths = [v.len() as u32, weights.len() as u32, v.len() as u32];
+    line(33, &[&lengths[..], &words(v), &words(weights), &[0], &words(&after)].concat());
 }
 
 fn quad(y0: f32, y1: f32, y2: f32) {

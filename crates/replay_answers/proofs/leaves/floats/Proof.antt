@@ -2,8 +2,8 @@ use mathlib.Core.Path.{_≡_}
 use Prim.Native.Nat.{_≤_, _-_}
 use borrow.Author.Needs.{needs}
 use lib.ListN.{length}
-use Rattle.replay_numeric.proofs.floats.Statement.{statement}
-use Rattle.replay_numeric.proofs.floats.Tie as tie
+use Rattle.replay_answers.proofs.leaves.floats.Statement.{statement}
+use Rattle.replay_answers.proofs.leaves.floats.Tie as tie
 
 abbrev Inv-loop : tie.InvT-loop
 Inv-loop words row₀ i₀ i-end row i = (i ≤ length words) × (length row ≡ length row₀)

@@ -1,13 +1,9 @@
-// Replays stored answers of the Rust. Standard input has a line for each: the number of a function, its arguments and the
-// answer, as hexadecimal words with one space between. A line that starts with '#' is passed over.
+// The float helpers, the area, the pieces of an apex, and records. A line: the function, its arguments and the answer.
+//  1 max  2 min  3 abs  4 clamp  5 floor  6 ceil  7 round  8 x as u32  9 n as f32  10 bits  11 lerp  12 quad_subsample
+//  16 area of two places and a row  17 its number  18 candidate of an index and a row  19 prominence  20 left crossing of the
+//  half height  21 right crossing  22 whether a record is sound
 ghost use Prim.Native.Nat.{_≤_, _<_};
 ghost use lib.ListN.{length};
-
-// How many lines with words there were, and how many of them differ.
-struct Tally {
-    lines: u64,
-    differ: u64,
-}
 
 // The answer of a function of up to three floats, as a word.
 fn scalar(function: u32, a: u32, b: u32, c: u32) -> u32 {
@@ -101,10 +97,6 @@ fn arguments(function: u32) -> usize
     }
 }
 
-fn word(words: &[u32], i: usize) -> u32 {
-    if i < words.len() { words[i] } else { 0 }
-}
-
 // The answers of lines with a row: two places and the readings, or an index and the readings.
 fn area_line(words: &[u32]) -> u32
     requires { ⌜ (4 ≤ length (now words)) × (length (now words) ≤ 64) ⌝ }
@@ -123,7 +115,7 @@ fn apex_line(words: &[u32]) -> u32
     let end = words.len() - 1;
     let k = words.len() - 3;
     floats(&words[2..end], &mut row);
-    let i = word(words, 1);
+    let i = super::word(words, 1);
     apex_word(words[0], i as usize, &row[..k])
 }
 
@@ -140,11 +132,12 @@ fn record_line(words: &[u32]) -> u32 {
 }
 
 // Whether the answer at the end of a line is the port's.
-fn agrees(words: &[u32]) -> bool
-    requires { ⌜ length (now words) ≤ 64 ⌝ }
-{
+pub(crate) fn agrees(words: &[u32]) -> bool {
     let n = words.len();
     if n < 3 {
+        return false;
+    }
+    if n > 64 {
         return false;
     }
     let function = words[0];
@@ -153,7 +146,7 @@ fn agrees(words: &[u32]) -> bool
         return arguments(function) == 1 && answer == scalar(function, words[1], 0, 0);
     }
     if arguments(function) + 2 == n {
-        return answer == scalar(function, words[1], words[2], word(words, 3));
+        return answer == scalar(function, words[1], words[2], super::word(words, 3));
     }
     if function == 16 || function == 17 {
         return answer == area_line(words);
@@ -165,71 +158,4 @@ fn agrees(words: &[u32]) -> bool
         return answer == record_line(words);
     }
     false
-}
-
-// Counts a line that has ended, if it has words.
-fn counted(t: Tally, words: &[u32]) -> Tally
-    requires { ⌜ length (now words) ≤ 64 ⌝ }
-{
-    if words.len() == 0 {
-        return t;
-    }
-    let lines = std::num::wrapping_add_u64(t.lines, 1);
-    if agrees(words) {
-        return Tally {
-            lines,
-            differ: t.differ,
-        };
-    }
-    let differ = std::num::wrapping_add_u64(t.differ, 1);
-    Tally { lines, differ }
-}
-
-// The bytes of a part of the input.
-struct State {
-    reading: hexlines::Reading,
-    tally: Tally,
-}
-
-fn feed_all(line: &mut [u32], s: State, bytes: &[u8]) -> State
-    requires { ⌜ (length (now line) ≤ 64) × (s .reading .words ≤ length (now line)) ⌝ }
-    ensures { λ r. ⌜ r .reading .words ≤ length (now (line .entry)) ⌝ }
-{
-    let mut reading = s.reading;
-    let mut tally = s.tally;
-    for i in 0..bytes.len() {
-        reading = hexlines::feed(line, reading, bytes[i]);
-        if reading.ended {
-            let n = reading.words;
-            tally = counted(tally, &line[..n]);
-        }
-    }
-    State { reading, tally }
-}
-
-fn main() {
-    let mut line = [0u32; 64];
-    let mut s = State {
-        reading: hexlines::start(),
-        tally: Tally {
-            lines: 0,
-            differ: 0,
-        },
-    };
-    let mut buf = io::large_buffer();
-    let mut turns = u64::MAX;
-    while turns > 0 {
-        turns -= 1;
-        let got = libc::read(0, &mut buf);
-        if got <= 0 {
-            break;
-        }
-        let k = io::count(got, &buf);
-        s = feed_all(&mut line, s, &buf[..k]);
-    }
-    let t = s.tally;
-    io::print_decimal(1, t.lines);
-    io::write_all(1, b" answers replayed, ");
-    io::print_decimal(1, t.differ);
-    io::write_all(1, b" differ\n");
 }

@@ -4,8 +4,8 @@ use Prim.Native.Nat.{_≤_, _-_}
 use native.Mathlib.Omega.{arith}
 use borrow.Author.Needs.{needs}
 use lib.ListN.{length}
-use Rattle.replay_numeric.proofs.feed_all.Statement.{statement}
-use Rattle.replay_numeric.proofs.feed_all.Tie as tie
+use Rattle.replay_answers.proofs.feed_all.Statement.{statement}
+use Rattle.replay_answers.proofs.feed_all.Tie as tie
 
 abbrev Inv-loop : tie.InvT-loop
 Inv-loop line₀ bytes reading₀ tally₀ i₀ i-end line reading tally i = (i ≤ length bytes) × (length line ≡ length line₀) × (reading .words ≤ length line)
@@ -29,7 +29,7 @@ slice-aggregate-counted : tie.Need-slice-aggregate-counted Inv-loop μ-loop
 slice-aggregate-counted c = simp length-take (omega arith)
 
 counted-requires : tie.Need-counted-requires Inv-loop μ-loop
-counted-requires c κs = simp length-take (omega arith)
+counted-requires c κs = search needs
 
 add-i : tie.Need-add-i Inv-loop μ-loop
 add-i c = search needs

@@ -1,8 +1,8 @@
 use lib.ListN.{length-take}
 use native.Mathlib.Omega.{arith}
 use borrow.Author.Needs.{needs}
-use Rattle.replay_numeric.proofs.area_line.Statement.{statement}
-use Rattle.replay_numeric.proofs.area_line.Tie as tie
+use Rattle.replay_answers.proofs.leaves.area_line.Statement.{statement}
+use Rattle.replay_answers.proofs.leaves.area_line.Tie as tie
 
 sub-end : tie.Need-sub-end
 sub-end c = search needs
