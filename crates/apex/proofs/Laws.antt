@@ -1,15 +1,18 @@
 -- One step of each walk from an apex, as the code's loops take it. Assumes nothing.
-use mathlib.Core.Path.{_≡_, refl, ap}
-use mathlib.Core.Bool.{true, false, cond}
+use mathlib.Core.Path.{_≡_, refl, ap, _∙_}
+use mathlib.Core.Bool.{Bool, true, false, cond, not, _&&_}
 use mathlib.Core.List.{List, [], _∷_}
-use Prim.Native.Nat.{ℕ, suc, _≤_, _<_, _-_, _+_}
+use Prim.Native.Nat.{ℕ, zero, suc, _≤_, _<_, _-_, _+_}
 use native.Mathlib.Omega.{arith}
 use native.Mathlib.Numerals.{add-one}
-use lib.ListN.{length, drop}
+use lib.ListN.{length, drop, drop-of-length-le}
 use lib.Seq.{drop-cons}
-use lib.Ieee.{Float, nan, lt}
+use lib.Ieee.{Float, nan, inf, fin, lt, isNan}
 use Rattle.numeric.specs.Arith.{at}
-use Rattle.apex.specs.Apex.{leftOf, upToHigher, least, runAbove, leftFoot, rightFoot}
+use borrow.Author.Tests.{not-true}
+use Rattle.numeric.proofs.Laws.{clash}
+use Rattle.numeric.proofs.Order.{lt-no-nan, le-not-lt, not-lt, le-trans}
+use Rattle.apex.specs.Apex.{noneBelow, leftOf, upToHigher, least, runAbove, leftFoot, rightFoot}
 
 -- ---- what is left of an index, and right of it
 pub left-cons : (y : List Float) (l : ℕ) → 0 < l → leftOf y l ≡ at y (l - 1) ∷ leftOf y (l - 1)
@@ -40,6 +43,67 @@ pub walk-stop : (apex m n v : Float) (xs vs : List Float) → xs ≡ v ∷ vs �
     → least m (upToHigher apex xs) ≡ n
 unfolding least upToHigher
 walk-stop apex m n v xs vs e d h = rw (e, h, d)
+
+-- ---- the ground
+pub below-step : (low : Float) (y : List Float) (i : ℕ) → i < length y → noneBelow low (drop i y) ≡ (not (lt (at y i) low) && noneBelow low (drop (i + 1) y))
+unfolding noneBelow
+below-step low y i h = rw (right-cons y i)
+
+pub below-end : (low : Float) (y : List Float) (i : ℕ) → length y ≤ i → noneBelow low (drop i y) ≡ true
+unfolding noneBelow
+below-end low y i h = rw (drop-of-length-le y h)
+
+-- no float is below minus infinity
+pub none-below-all : (y : List Float) → noneBelow (inf true) y ≡ true
+unfolding noneBelow lt
+none-below-all [] = refl
+none-below-all (nan ∷ vs) = none-below-all vs
+none-below-all (inf true ∷ vs) = none-below-all vs
+none-below-all (inf false ∷ vs) = none-below-all vs
+none-below-all (fin s m e ∷ vs) = none-below-all vs
+
+and-both : (a b : Bool) → (a && b) ≡ true → (a ≡ true) × (b ≡ true)
+and-both true b h = (refl, h)
+and-both false b h = clash false h refl
+
+-- neither a part of the row nor what is left of an index goes below the ground
+pub ground-drop : (low : Float) (y : List Float) (r : ℕ) → noneBelow low y ≡ true → noneBelow low (drop r y) ≡ true
+unfolding noneBelow
+ground-drop low y zero h = h
+ground-drop low [] (suc r) h = refl
+ground-drop low (v ∷ vs) (suc r) h = ground-drop low vs r (and-both (not (lt v low)) (noneBelow low vs) h .1)
+
+at-ground : (low : Float) (y : List Float) (k : ℕ) → noneBelow low y ≡ true → lt (at y k) low ≡ false
+unfolding noneBelow lt
+at-ground low [] k h = refl
+at-ground low (v ∷ vs) zero h = not-true (lt v low) (and-both (not (lt v low)) (noneBelow low vs) h .0)
+at-ground low (v ∷ vs) (suc k) h = at-ground low vs k (and-both (not (lt v low)) (noneBelow low vs) h .1)
+
+pub ground-left : (low : Float) (y : List Float) (l : ℕ) → noneBelow low y ≡ true → noneBelow low (leftOf y l) ≡ true
+unfolding leftOf noneBelow
+ground-left low y zero h = refl
+ground-left low y (suc l) h = rw (at-ground low y l h) (ground-left low y l h)
+
+-- what is not below the ground is not below what the ground is not below
+above-ground : (low v m : Float) → isNan low ≡ false → lt v low ≡ false → lt low m ≡ false → lt v m ≡ false
+above-ground low v m n p q = go (lt v m) refl
+  where
+    go : (t : Bool) → lt v m ≡ t → lt v m ≡ false
+    go true e = let k = lt-no-nan v m e in clash (lt v m) e (le-not-lt v m (le-trans m low v (not-lt low m n (k .1) q) (not-lt v low (k .0) n p)))
+    go false e = e
+
+-- at the ground a walk finds nothing lower
+pub walk-ground : (low apex m : Float) (xs : List Float) → isNan low ≡ false → noneBelow low xs ≡ true → lt low m ≡ false → least m (upToHigher apex xs) ≡ m
+unfolding least upToHigher noneBelow
+walk-ground low apex m [] n h g = refl
+walk-ground low apex m (v ∷ vs) n h g =
+    let p = and-both (not (lt v low)) (noneBelow low vs) h in
+    let stays : cond (lt v m) v m ≡ m = rw (above-ground low v m n (not-true (lt v low) (p .0)) g) in
+    ap (λ (k : Float). least k (cond (lt apex v) [] (upToHigher apex vs))) stays ∙ go (lt apex v) (walk-ground low apex m vs n (p .1) g)
+  where
+    go : (b : Bool) → least m (upToHigher apex vs) ≡ m → least m (cond b [] (upToHigher apex vs)) ≡ m
+    go true r = refl
+    go false r = r
 
 -- ---- the feet
 pub run-on : (h v : Float) (xs vs : List Float) → xs ≡ v ∷ vs → lt h v ≡ true → runAbove h xs ≡ suc (runAbove h vs)

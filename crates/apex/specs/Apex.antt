@@ -1,11 +1,12 @@
 -- The apexes of a row of readings or of a retention trace: candidates, prominence, half height and the places where the
 -- row crosses a height. Every operation is rounded once, in this order.
-use mathlib.Core.Bool.{Bool, cond, _&&_}
+use mathlib.Core.Path.{_≡_}
+use mathlib.Core.Bool.{Bool, true, false, cond, not, _&&_}
 use mathlib.Core.List.{List, [], _∷_, _++_}
 use Prim.Native.Nat.{ℕ, zero, suc, _+_, _-_, min}
 use lib.Dec.{ltb}
 use lib.ListN.{length, drop}
-use lib.Ieee.{Float, lt, le, ne}
+use lib.Ieee.{Float, lt, le, ne, isNan}
 use Rattle.numeric.specs.Arith.{_⊕_, _⊖_, _⊗_, _⊘_, 𝟎, ½, indexF, at}
 use Rattle.numeric.specs.Numeric.{maxF}
 use Rattle.apex.specs.declared.inner.Rise.{Rise}
@@ -59,6 +60,15 @@ halfHeight y i = baseline y i ⊕ ½ ⊗ prominence y i
 
 abbrev pub riseOf : List Float → ℕ → Rise
 riseOf y i = record { prominence = prominence y i; half = halfHeight y i }
+
+-- a height that no reading of a row is below; no walk to a lower reading has to go on from there
+unfoldable pub noneBelow : Float → List Float → Bool
+noneBelow low [] = true
+noneBelow low (v ∷ vs) = not (lt v low) && noneBelow low vs
+
+pub record Ground (low : Float) (y : List Float) : Type 0 where
+  pub number : isNan low ≡ false
+  pub none : noneBelow low y ≡ true
 
 -- ---- crossings
 

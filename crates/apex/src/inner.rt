@@ -3,7 +3,7 @@ ghost use mathlib.Core.Path.{_≡_};
 ghost use Prim.Native.Nat.{_≤_, _<_, _+_};
 ghost use lib.ListN.{length};
 ghost use Rattle.numeric.specs.Arith.{at};
-ghost use Rattle.apex.specs.Apex.{isCandidate, leftOf, rightOf, upToHigher, least, baseline, riseOf, leftFoot, rightFoot, share, leftCrossing, rightCrossing};
+ghost use Rattle.apex.specs.Apex.{isCandidate, leftOf, rightOf, upToHigher, least, baseline, riseOf, noneBelow, Ground, leftFoot, rightFoot, share, leftCrossing, rightCrossing};
 
 // How far an apex rises above its baseline, and the height half of that above the baseline.
 pub struct Rise {
@@ -18,15 +18,37 @@ pub fn is_candidate(y: &[f32], i: usize) -> bool
     y[i] > y[i - 1] && y[i] >= y[i + 1]
 }
 
-// The least reading from i on to the left, as far as the first one above it.
-fn left_least(y: &[f32], i: usize) -> f32
-    requires { ⌜ i < length (now y) ⌝ }
+// Whether no reading is below a height.
+fn none_below(y: &[f32], low: f32) -> bool
+    ensures { λ r. ⌜ r ≡ noneBelow low (now (y .entry)) ⌝ }
+{
+    let mut none = true;
+    for i in 0..y.len() {
+        none = none & !(y[i] < low);
+    }
+    none
+}
+
+// A height that no reading is below: 0 for a row of readings that are not negative.
+pub fn ground_of(y: &[f32]) -> f32
+    ensures { λ r. ⌜ Ground r (now (y .entry)) ⌝ }
+{
+    if none_below(y, 0.0) {
+        return 0.0;
+    }
+    -1.0 / 0.0
+}
+
+// The least reading from i on to the left, as far as the first one above it. No reading lies below the ground, so that the
+// walk may end there.
+fn left_least(y: &[f32], ground: f32, i: usize) -> f32
+    requires { ⌜ (i < length (now y)) × Ground ground (now y) ⌝ }
     ensures { λ r. ⌜ r ≡ least (at (now (y .entry)) i) (upToHigher (at (now (y .entry)) i) (leftOf (now (y .entry)) i)) ⌝ }
 {
     let apex = y[i];
     let mut m = apex;
     let mut l = i;
-    while l > 0 {
+    while l > 0 && ground < m {
         l -= 1;
         let v = y[l];
         if v < m {
@@ -40,14 +62,14 @@ fn left_least(y: &[f32], i: usize) -> f32
 }
 
 // The same to the right.
-fn right_least(y: &[f32], i: usize) -> f32
-    requires { ⌜ i < length (now y) ⌝ }
+fn right_least(y: &[f32], ground: f32, i: usize) -> f32
+    requires { ⌜ (i < length (now y)) × Ground ground (now y) ⌝ }
     ensures { λ r. ⌜ r ≡ least (at (now (y .entry)) i) (upToHigher (at (now (y .entry)) i) (rightOf (now (y .entry)) i)) ⌝ }
 {
     let apex = y[i];
     let mut m = apex;
     let mut r = i + 1;
-    while r < y.len() {
+    while r < y.len() && ground < m {
         let v = y[r];
         r += 1;
         if v < m {
@@ -60,11 +82,11 @@ fn right_least(y: &[f32], i: usize) -> f32
     m
 }
 
-pub fn rise_of(y: &[f32], i: usize) -> Rise
-    requires { ⌜ i < length (now y) ⌝ }
+pub fn rise_of(y: &[f32], ground: f32, i: usize) -> Rise
+    requires { ⌜ (i < length (now y)) × Ground ground (now y) ⌝ }
     ensures { λ r. ⌜ r ≡ riseOf (now (y .entry)) i ⌝ }
 {
-    let base = numeric::max(left_least(y, i), right_least(y, i));
+    let base = numeric::max(left_least(y, ground, i), right_least(y, ground, i));
     let prominence = y[i] - base;
     Rise {
         prominence,

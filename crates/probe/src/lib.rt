@@ -138,7 +138,7 @@ pub extern "C" fn probe_prominence(y: &[f32], i: usize) -> f32
         if y.len() > 16777216 {
             return 0.0;
         }
-        return apex::inner::rise_of(y, i).prominence;
+        return apex::inner::rise_of(y, apex::inner::ground_of(y), i).prominence;
     }
     0.0
 }
@@ -151,7 +151,7 @@ pub extern "C" fn probe_half_height(y: &[f32], i: usize) -> f32
         if y.len() > 16777216 {
             return 0.0;
         }
-        return apex::inner::rise_of(y, i).half;
+        return apex::inner::rise_of(y, apex::inner::ground_of(y), i).half;
     }
     0.0
 }

@@ -66,7 +66,7 @@ fn apex_word(function: u32, i: usize, y: &[f32]) -> u32
         }
         return 0;
     }
-    let rise = apex::inner::rise_of(y, i);
+    let rise = apex::inner::rise_of(y, apex::inner::ground_of(y), i);
     if function == 19 {
         return numeric::word_of(rise.prominence);
     }

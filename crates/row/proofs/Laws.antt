@@ -2,14 +2,14 @@
 use mathlib.Core.Path.{_≡_, refl, sym, ap, _∙_, subst}
 use mathlib.Core.Bool.{Bool, true, false, cond, not, _&&_, _||_}
 use mathlib.Core.List.{List, [], _∷_, _++_, append-assoc}
-use mathlib.Core.Logic.{_⊎_, inl, inr}
-use Prim.Native.Nat.{ℕ, zero, suc, _≤_, _<_, _+_, _-_, _*_, _/_, _^_}
+use mathlib.Core.Logic.{inl, inr, ⊎-elim}
+use Prim.Native.Nat.{ℕ, zero, suc, _≤_, _<_, _+_, _-_, _*_, _^_}
 use native.Mathlib.Numerals.{add-one, sub-one}
 use native.Mathlib.Omega.{arith}
-use borrow.Author.Tests.{le-leb, lt-leb, eq-eqb, ne-eqb, not-false, eqb-true, ltb-false, leb-true}
+use borrow.Author.Tests.{le-leb, lt-leb, not-false, eqb-true, ltb-false, leb-true}
 use lib.Dec.{leb, ltb, eqb}
 use lib.ListN.{length, getD, take, drop, drop-of-length-le, List·getD-eq-default}
-use lib.Seq.{drop-cons, take-at, drop-at, drop-drop, drop-append-add}
+use lib.Seq.{drop-cons, take-at, drop-drop, drop-append-add}
 use lib.Ieee.{Float, nan, binary32, lt, le, neg, isNan, ofBits}
 use Rattle.numeric.specs.Arith.{_⊖_, at, indexF, 𝟎, ½}
 use Rattle.numeric.specs.Numeric.{maxF, minF, clampF, castF, allInRange}
@@ -32,10 +32,13 @@ use Rattle.row.specs.Row.{highest, mobilityAt, mobilityFlag, groupFlag, 
 use Rattle.row.specs.RowNumber.{sameLengths, soundReadings, soundValues, soundAxis, rowNumber}
 use Rattle.row.specs.Suppression.{keep, keepAll}
 use Rattle.row.specs.RowLaws.{keptTo, kept-step, kept-to-count, row-words-length}
-use Rattle.row.specs.Steps.{Ready, Inside, measuredOf, judged, foundAt, slotOf}
+use Rattle.row.specs.Steps.{Ready, Inside, measuredOf, judged, foundAt, turnOf, Placed, Stands, Starts, toGo, Answered, After, Goes}
 use Rattle.row.specs.declared.inner.Measured.{Measured}
 use Rattle.row.specs.declared.inner.Found.the-variants.{Apex, Nothing}
-use Rattle.row.specs.declared.inner.Slot.the-variants.{Put, Skip}
+use Rattle.row.specs.declared.inner.Turn.the-variants.{Hold, Pass, Settle}
+use Rattle.row.specs.declared.inner.Search.{Search}
+use Rattle.row.specs.declared.inner.Step.{Step}
+use Rattle.row.specs.declared.inner.Step.the-variants.{Peak, End}
 
 -- the default does not matter inside of a list
 default-out : {A : Type 0} (l : List A) (i : ℕ) (d e : A) → i < length l → getD l i d ≡ getD l i e
@@ -214,50 +217,7 @@ module _ (place : RowPlace) (bounds : FrameBounds) (mobility : List Float) (axis
       let ew : a .width ≡ width y (a .index) = ap (λ (m : Measured). m .width) (inside .is) in
       rw (e6, e7, e8, e9, e10, e11, e14, e15, e12, e13, e3, e5, e2, e4, e1, ep, el, er, ew)
 
--- ---- one turn of the loop over the samples
-
--- the newest of the apexes kept so far
-abbrev pub newest : List ℕ → ℕ → ℕ
-newest [] d = d
-newest (q ∷ qs) d = q
-
--- an apex that goes to place k comes in front of k older ones: all that were kept, or all but the newest
-pub record Behind (ks older : List ℕ) (k : ℕ) : Type 0 where
-  pub count : length older ≡ k
-  pub either : (older ≡ ks) ⊎ ((q : ℕ) × (ks ≡ q ∷ older))
-
-pub slot-put : (y : List Float) (d n last i k : ℕ) (ks : List ℕ) → n ≡ length ks → last ≡ newest ks last → slotOf y d n last i ≡ Put k
-    → (older : List ℕ) × (keep d y ks i ≡ i ∷ older) × Behind ks older k
-unfolding slotOf keep
-slot-put y d n last i k [] e f s =
-    let z : eqb n 0 ≡ true = eq-eqb n 0 e in
-    let g : Put 0 ≡ Put k = rw z at s in
-    ([], refl, record { count = cc; either = inl refl })
-slot-put y d n last i k (q ∷ qs) e f s =
-    let z : eqb n 0 ≡ false = ne-eqb n 0 (λ b. omega arith) in
-    go (ltb (i - q) d) (le (at y i) (at y q)) (rw (z, f) at s)
-  where
-    go : (a b : Bool) → cond a (cond b Skip (Put (n - 1))) (Put n) ≡ Put k
-        → (older : List ℕ) × (cond a (cond b (q ∷ qs) (i ∷ qs)) (i ∷ q ∷ qs) ≡ i ∷ older) × Behind (q ∷ qs) older k
-    go true true g = let w : _≡_ {A = ℕ} 0 1 = cc in absurd (omega arith)
-    go true false g = let w : n - 1 ≡ k = cc in (qs, refl, record { count = omega arith; either = inr (q, refl) })
-    go false b g = let w : n ≡ k = cc in (q ∷ qs, refl, record { count = omega arith; either = inl refl })
-
-pub slot-skip : (y : List Float) (d n last i : ℕ) (ks : List ℕ) → n ≡ length ks → last ≡ newest ks last → slotOf y d n last i ≡ Skip
-    → keep d y ks i ≡ ks
-unfolding slotOf keep
-slot-skip y d n last i [] e f s =
-    let z : eqb n 0 ≡ true = eq-eqb n 0 e in
-    let g : Put 0 ≡ Skip = rw z at s in
-    let w : _≡_ {A = ℕ} 0 1 = cc in absurd (omega arith)
-slot-skip y d n last i (q ∷ qs) e f s =
-    let z : eqb n 0 ≡ false = ne-eqb n 0 (λ b. omega arith) in
-    go (ltb (i - q) d) (le (at y i) (at y q)) (rw (z, f) at s)
-  where
-    go : (a b : Bool) → cond a (cond b Skip (Put (n - 1))) (Put n) ≡ Skip → cond a (cond b (q ∷ qs) (i ∷ qs)) (i ∷ q ∷ qs) ≡ q ∷ qs
-    go true true g = refl
-    go true false g = let w : _≡_ {A = ℕ} 0 1 = cc in absurd (omega arith)
-    go false b g = let w : _≡_ {A = ℕ} 0 1 = cc in absurd (omega arith)
+-- ---- one turn of the search
 
 -- what the search at i means for the apexes kept so far
 pub found-apex : (p : ImDetectParams) (y : List Float) (i : ℕ) (a : Measured) → 0 < i → foundAt p y i ≡ Apex a
@@ -273,13 +233,6 @@ found-apex p y (suc k) a h e = rw sub-one (go (isCandidate y (suc k)) (qualifies
     go true false g s = let w : _≡_ {A = ℕ} 0 1 = cc in absurd (omega arith)
     go false c g s = let w : _≡_ {A = ℕ} 0 1 = cc in absurd (omega arith)
 
-pub found-inside : (p : ImDetectParams) (y z : List Float) (axis : List ℕ) (i first room : ℕ) (a : Measured) → Ready y z axis first room → 0 < i → i + 1 < length y
-    → foundAt p y i ≡ Apex a → Inside y z axis a
-found-inside p y z axis i first room a r low high f =
-    let e = found-apex p y i a low f .0 in
-    let x : a .index ≡ i = ap (λ (m : Measured). m .index) e in
-    record { is = e ∙ ap (measuredOf y) (sym x); low = omega arith; high = omega arith; raw = r .raw; scans = r .scans; short = r .short }
-
 pub found-nothing : (p : ImDetectParams) (y : List Float) (i : ℕ) → 0 < i → foundAt p y i ≡ Nothing → keptTo p y i ≡ keptTo p y (i - 1)
 unfolding foundAt judged
 found-nothing p y zero h e = absurd (omega arith)
@@ -292,81 +245,229 @@ found-nothing p y (suc k) h e = rw sub-one (go (isCandidate y (suc k)) (qualifie
     go true false g s = s
     go false c g s = s
 
+-- what becomes of an apex that qualifies, where `last` is held over es, or none is held and none was kept
+module _ (d : ℕ) (y : List Float) (last i : ℕ) (ks es : List ℕ) where
+  hold-keeps : (h : Bool) → turnOf y d h last i ≡ Hold → (h ≡ true → ks ≡ last ∷ es) → (h ≡ false → (ks ≡ []) × (es ≡ [])) → keep d y ks i ≡ i ∷ es
+  unfolding turnOf keep
+  hold-keeps false t f g = rw (g refl .0, g refl .1)
+  hold-keeps true t f g = rw (f refl) (go (ltb (i - last) d) (le (at y i) (at y last)) t)
+    where
+      go : (a b : Bool) → cond a (cond b Pass Hold) Settle ≡ Hold → cond a (cond b (last ∷ es) (i ∷ es)) (i ∷ last ∷ es) ≡ i ∷ es
+      go true true u = let w : _≡_ {A = ℕ} 0 1 = cc in absurd (omega arith)
+      go true false u = refl
+      go false b u = let w : _≡_ {A = ℕ} 0 1 = cc in absurd (omega arith)
+
+  pass-keeps : (h : Bool) → turnOf y d h last i ≡ Pass → (h ≡ true → ks ≡ last ∷ es) → keep d y ks i ≡ ks
+  unfolding turnOf keep
+  pass-keeps false t f = let w : _≡_ {A = ℕ} 0 1 = cc in absurd (omega arith)
+  pass-keeps true t f = rw (f refl) (go (ltb (i - last) d) (le (at y i) (at y last)) t)
+    where
+      go : (a b : Bool) → cond a (cond b Pass Hold) Settle ≡ Pass → cond a (cond b (last ∷ es) (i ∷ es)) (i ∷ last ∷ es) ≡ last ∷ es
+      go true true u = refl
+      go true false u = let w : _≡_ {A = ℕ} 0 1 = cc in absurd (omega arith)
+      go false b u = let w : _≡_ {A = ℕ} 0 1 = cc in absurd (omega arith)
+
+  settle-keeps : (h : Bool) → turnOf y d h last i ≡ Settle → (h ≡ true → ks ≡ last ∷ es) → (h ≡ true) × (keep d y ks i ≡ i ∷ last ∷ es)
+  unfolding turnOf keep
+  settle-keeps false t f = let w : _≡_ {A = ℕ} 0 1 = cc in absurd (omega arith)
+  settle-keeps true t f = (refl, rw (f refl) (go (ltb (i - last) d) (le (at y i) (at y last)) t))
+    where
+      go : (a b : Bool) → cond a (cond b Pass Hold) Settle ≡ Settle → cond a (cond b (last ∷ es) (i ∷ es)) (i ∷ last ∷ es) ≡ i ∷ last ∷ es
+      go true true u = let w : _≡_ {A = ℕ} 0 1 = cc in absurd (omega arith)
+      go true false u = let w : _≡_ {A = ℕ} 0 1 = cc in absurd (omega arith)
+      go false b u = refl
+
+abbrev pub searchAt : ℕ → Bool → Measured → Search
+searchAt i held last = record { next = i; held = held; last = last }
+
+-- nothing is kept of the indices before the first
+pub starts : (a : Measured) → a .index ≡ 0 → Starts (searchAt 1 false a)
+unfolding keepAll chosenOf candidatesTo
+starts a e p y =
+    record {
+      placed = record { low = omega arith; high = omega arith; behind = omega arith };
+      one = λ h. clash false h refl;
+      none = λ h. record { all = refl; ends = inl refl };
+    }
+
+-- the search at i, past es
+module _ (p : ImDetectParams) (y : List Float) (i : ℕ) (held : Bool) (last : Measured) (es : List ℕ) (st : Stands p y (searchAt i held last) es) where
+  -- a held apex lies between the row's first sample and its last, and is the next to be answered
+  held-answers : (t : Search) → held ≡ true → Stands p y t (last .index ∷ es) → (s : Search) → toGo y t < toGo y s → Answered p y s es last t
+  held-answers t h n s l =
+      let o = st .one h in
+      record { is = o .is; low = o .inner; high = omega (arith, o .inner, st .placed); stands = n; less = l }
+
+  -- where the row ends, it is answered, ..
+  end-held : held ≡ true → length y ≤ i + 1 → (s : Search) → toGo y (searchAt i held last) ≤ toGo y s → Answered p y s es last (searchAt i false last)
+  end-held h e s l =
+      let o = st .one h in
+      let q : toGo y (searchAt i held last) ≡ 2 * (length y - i) + 1 = rw h in
+      held-answers
+      (searchAt i false last)
+      h
+      (record { placed = record { low = st .placed .low; high = st .placed .high; behind = st .placed .behind }; one = λ f. clash false f refl; none = λ f. record { all = o .newest; ends = inr (omega (arith, st .placed)) } })
+      s
+      (omega arith)
+
+  -- .. and if there is none, es are all that are kept
+  end-none : held ≡ false → length y ≤ i + 1 → keptTo p y (length y - 2) ≡ es
+  end-none h e = let q : i - 1 ≡ length y - 2 = omega (arith, st .placed) in rw (← q) (st .none h .all)
+
+  module _ (high : i + 1 < length y) where
+    back : i + 1 - 1 ≡ i
+    back = omega arith
+
+    -- what is kept stays as it is
+    goes-on : keptTo p y i ≡ keptTo p y (i - 1) → Stands p y (searchAt (i + 1) held last) es
+    goes-on e =
+        record {
+          placed = record { low = omega arith; high = omega arith; behind = omega (arith, st .placed) };
+          one = λ h. let o = st .one h in record { is = o .is; inner = o .inner; newest = rw back (e ∙ o .newest) };
+          none = λ h.
+              let o = st .none h in record { all = rw back (e ∙ o .all); ends = ⊎-elim inl (λ w. absurd (omega (arith, st .placed))) (o .ends) };
+        }
+
+    turn-nothing : foundAt p y i ≡ Nothing → Stands p y (searchAt (i + 1) held last) es
+    turn-nothing f = goes-on (found-nothing p y i (st .placed .low) f)
+
+    module _ (a : Measured) (f : foundAt p y i ≡ Apex a) where
+      found : a ≡ measuredOf y i
+      found = found-apex p y i a (st .placed .low) f .0
+
+      found-index : a .index ≡ i
+      found-index = ap (λ (m : Measured). m .index) found
+
+      step : keptTo p y i ≡ keep (p .«min_distance_scans») y (keptTo p y (i - 1)) i
+      step = found-apex p y i a (st .placed .low) f .1
+
+      held-newest : held ≡ true → keptTo p y (i - 1) ≡ last .index ∷ es
+      held-newest h = st .one h .newest
+
+      none-kept : held ≡ false → (keptTo p y (i - 1) ≡ []) × (es ≡ [])
+      none-kept h =
+          let o = st .none h in
+          let e : es ≡ [] = ⊎-elim (λ (w : es ≡ []). w) (λ w. absurd (omega (arith, st .placed))) (o .ends) in
+          (o .all ∙ e, e)
+
+      -- the apex at i is held over fs
+      takes : (fs : List ℕ) → keptTo p y i ≡ i ∷ fs → Stands p y (searchAt (i + 1) true a) fs
+      takes fs e =
+          record {
+            placed = record { low = omega arith; high = omega arith; behind = omega (arith, found-index) };
+            one = λ h. record { is = found ∙ ap (measuredOf y) (sym found-index); inner = omega (arith, found-index, st .placed); newest = rw (back, found-index) e };
+            none = λ h. clash true refl h;
+          }
+
+      turn-hold : turnOf y (p .«min_distance_scans») held (last .index) i ≡ Hold → Stands p y (searchAt (i + 1) true a) es
+      turn-hold t = takes es (step ∙ hold-keeps (p .«min_distance_scans») y (last .index) i (keptTo p y (i - 1)) es held t held-newest none-kept)
+
+      turn-pass : turnOf y (p .«min_distance_scans») held (last .index) i ≡ Pass → Stands p y (searchAt (i + 1) held last) es
+      turn-pass t = goes-on (step ∙ pass-keeps (p .«min_distance_scans») y (last .index) i (keptTo p y (i - 1)) es held t held-newest)
+
+      turn-settle : turnOf y (p .«min_distance_scans») held (last .index) i ≡ Settle → (s : Search) → toGo y (searchAt i held last) ≤ toGo y s → Answered p y s es last (searchAt (i + 1) true a)
+      turn-settle t s l =
+          let w = settle-keeps (p .«min_distance_scans») y (last .index) i (keptTo p y (i - 1)) es held t held-newest in
+          let q : toGo y (searchAt i held last) ≡ 2 * (length y - i) + 1 = rw (w .0) in
+          held-answers (searchAt (i + 1) true a) (w .0) (takes (last .index ∷ es) (step ∙ w .1)) s (omega arith)
+
+-- the search t is reached from s without an answer
+pub record Reached (p : ImDetectParams) (y : List Float) (s t : Search) : Type 0 where
+  pub placed : Placed y t
+  pub less : toGo y t ≤ toGo y s
+  pub stands : (es : List ℕ) → Stands p y s es → Stands p y t es
+
+module _ (p : ImDetectParams) (y : List Float) (s : Search) (i : ℕ) (held : Bool) (last : Measured) (r : Reached p y s (searchAt i held last)) where
+  pub reached-end : held ≡ true → length y ≤ i + 1 → (es : List ℕ) → Stands p y s es → Answered p y s es last (searchAt i false last)
+  reached-end h e es st = end-held p y i held last es (r .stands es st) h e s (r .less)
+
+  pub reached-none : held ≡ false → length y ≤ i + 1 → (es : List ℕ) → Stands p y s es → keptTo p y (length y - 2) ≡ es
+  reached-none h e es st = end-none p y i held last es (r .stands es st) h e
+
+  module _ (high : i + 1 < length y) where
+    pub reached-nothing : foundAt p y i ≡ Nothing → Reached p y s (searchAt (i + 1) held last)
+    reached-nothing f =
+        record {
+          placed = record { low = omega arith; high = omega arith; behind = omega (arith, r .placed) };
+          less = omega (arith, r .less);
+          stands = λ es st. turn-nothing p y i held last es (r .stands es st) high f;
+        }
+
+    module _ (a : Measured) (f : foundAt p y i ≡ Apex a) where
+      pub reached-hold : turnOf y (p .«min_distance_scans») held (last .index) i ≡ Hold → Reached p y s (searchAt (i + 1) true a)
+      reached-hold t =
+          let x : a .index ≡ i = ap (λ (m : Measured). m .index) (found-apex p y i a (r .placed .low) f .0) in
+          record {
+            placed = record { low = omega arith; high = omega arith; behind = omega arith };
+            less = omega (arith, r .less);
+            stands = λ es st. turn-hold p y i held last es (r .stands es st) high a f t;
+          }
+
+      pub reached-pass : turnOf y (p .«min_distance_scans») held (last .index) i ≡ Pass → Reached p y s (searchAt (i + 1) held last)
+      reached-pass t =
+          record {
+            placed = record { low = omega arith; high = omega arith; behind = omega (arith, r .placed) };
+            less = omega (arith, r .less);
+            stands = λ es st. turn-pass p y i held last es (r .stands es st) high a f t;
+          }
+
+      pub reached-settle : turnOf y (p .«min_distance_scans») held (last .index) i ≡ Settle → (es : List ℕ) → Stands p y s es → Answered p y s es last (searchAt (i + 1) true a)
+      reached-settle t es st = turn-settle p y i held last es (r .stands es st) high a f t s (r .less)
+
+-- ---- the records of the apexes that are answered
+
+-- there are no more than the row has room for
+pub stands-count : (p : ImDetectParams) (y : List Float) (s : Search) (es : List ℕ) → Stands p y s es → length es ≤ mostPeaks (length y)
+stands-count p y s es st = go (s .held) refl
+  where
+    go : (b : Bool) → s .held ≡ b → length es ≤ mostPeaks (length y)
+    go true h = omega (arith, kept-to-count p y (s .next - 1), ap length (st .one h .newest), st .placed)
+    go false h = omega (arith, kept-to-count p y (s .next - 1), ap length (st .none h .all), st .placed)
+
+-- what an answer after es says
+module _ (p : ImDetectParams) (y : List Float) (s : Search) (r : Step) (goes : Goes p y s r) (es : List ℕ) (st : Stands p y s es) where
+  pub answer-end : r ≡ End → keptTo p y (length y - 2) ≡ es
+  answer-end e = subst (After p y s es) e (goes es st)
+
+  module _ (m : Measured) (t : Search) (e : r ≡ Peak m t) where
+    pub answer-peak : Answered p y s es m t
+    answer-peak = subst (After p y s es) e (goes es st)
+
+    pub answer-inside : (z : List Float) (axis : List ℕ) (first room : ℕ) → Ready y z axis first room → Inside y z axis m
+    answer-inside z axis first room h =
+        let a = answer-peak in
+        record { is = a .is; low = a .low; high = a .high; raw = h .raw; scans = h .scans; short = h .short }
+
+    pub answer-fits : length es < mostPeaks (length y)
+    answer-fits = omega (arith, stands-count p y t (m .index ∷ es) (answer-peak .stands))
+
 module _ (place : RowPlace) (bounds : FrameBounds) (mobility : List Float) (axis : List ℕ) (y z : List Float) (first : ℕ) where
-  -- the records of the apexes ks stand at the front of the buffer d, there are n of them, and the newest is `last`
-  pub record Held (ks d out : List ℕ) (n last : ℕ) : Type 0 where
-    pub count : n ≡ length ks
-    pub front : out ≡ rowWords place bounds mobility axis y z first ks ++ drop (n * size) d
-    pub is-newest : last ≡ newest ks last
+  -- the records of the apexes es stand at the front of the buffer d, and there are n of them
+  pub record Listed (es d out : List ℕ) (n : ℕ) : Type 0 where
+    pub count : n ≡ length es
+    pub front : out ≡ rowWords place bounds mobility axis y z first es ++ drop (n * size) d
 
-  -- before the first sample
-  pub start : (p : ImDetectParams) (d : List ℕ) → Held (keptTo p y (1 - 1)) d d 0 0
-  unfolding rowWords keepAll chosenOf candidatesTo
-  start p d = record { count = refl; front = refl; is-newest = refl }
-
-  -- the record of the apex i, written over or behind those of older ones
-  put-record : (older d out R : List ℕ) (i k : ℕ) → length older ≡ k → out ≡ rowWords place bounds mobility axis y z first older ++ R
-      → drop size R ≡ drop ((k + 1) * size) d
-      → Held (i ∷ older) d (withPeak out k (peakOf place bounds mobility axis y z i (first + k))) (k + 1) i
-  unfolding rowWords withPeak
-  put-record older d out R i k e o r =
-      let W = rowWords place bounds mobility axis y z first older in
-      let l : length W ≡ k * size = row-words-length place bounds mobility axis y z first older ∙ ap (λ (n : ℕ). n * size) e in
-      let t : take (k * size) out ≡ W = ap (take (k * size)) o ∙ take-at W R (k * size) l in
-      let b : drop (k * size + size) out ≡ drop ((k + 1) * size) d =
-      ap (drop (k * size + size)) o ∙ subst (λ (n : ℕ). drop (n + size) (W ++ R) ≡ drop size R) l (drop-append-add W R size) ∙ r in
-      record {
-        count = omega arith;
-        front = rw (t, b, e) (sym (append-assoc W (wordsOf (peakOf place bounds mobility axis y z i (first + k))) (drop ((k + 1) * size) d)));
-        is-newest = refl;
-      }
-
-  put-behind : (ks older d out : List ℕ) (n last i k : ℕ) → Held ks d out n last → Behind ks older k
-      → Held (i ∷ older) d (withPeak out k (peakOf place bounds mobility axis y z i (first + k))) (k + 1) i
+  pub none-listed : (d : List ℕ) → Listed [] d d 0
   unfolding rowWords
-  put-behind ks older d out n last i k h b =
-      elim (b .either) [
-        | inl e ↦
-            let kn : k ≡ n = sym (b .count) ∙ ap length e ∙ sym (h .count) in
-            put-record older d out (drop (n * size) d) i k (b .count) (rw e (h .front)) (drop-drop size (n * size) d ∙ (let m : n * size + size ≡ (k + 1) * size = omega arith in ap (λ (a : ℕ). drop a d) m))
-        | inr w ↦
-            let q = w .0 in
-            let R = wordsOf (peakOf place bounds mobility axis y z q (first + length older)) in
-            let kn : n ≡ k + 1 = h .count ∙ ap length (w .1) ∙ (let m : suc (length older) ≡ k + 1 = omega (arith, b .count) in m) in
-            put-record
-            older
-            d
-            out
-            (R ++ drop (n * size) d)
-            i
-            k
-            (b .count)
-            (h .front ∙ rw (w .1) (append-assoc (rowWords place bounds mobility axis y z first older) R (drop (n * size) d)))
-            (drop-at R (drop (n * size) d) size refl ∙ ap (λ (a : ℕ). drop (a * size) d) kn)
-      ]
+  none-listed d = record { count = refl; front = refl }
 
-  module _ (p : ImDetectParams) (i : ℕ) (d out : List ℕ) (n last : ℕ) (pos : 0 < i) (h : Held (keptTo p y (i - 1)) d out n last) where
-    pub turn-put : (a : Measured) (k : ℕ) (next : List ℕ) (peak : ImPeak1D) → foundAt p y i ≡ Apex a → slotOf y (p .«min_distance_scans») n last i ≡ Put k
-        → peak ≡ peakOf place bounds mobility axis y z (a .index) (first + k) → next ≡ withPeak out k peak → Held (keptTo p y i) d next (k + 1) i
-    turn-put a k next peak f s e o =
-        let ks = keptTo p y (i - 1) in
-        let w = slot-put y (p .«min_distance_scans») n last i k ks (h .count) (h .is-newest) s in
-        let x : a .index ≡ i = ap (λ (m : Measured). m .index) (found-apex p y i a pos f .0) in
-        rw (found-apex p y i a pos f .1, w .1, o, e, x) (put-behind ks (w .0) d out n last i k h (w .2))
-
-    -- such a place is among those that the row has room for
-    pub turn-bound : (a : Measured) (k : ℕ) → foundAt p y i ≡ Apex a → slotOf y (p .«min_distance_scans») n last i ≡ Put k → k + 1 ≤ (i + 1) / 2
-    turn-bound a k f s =
-        let w = slot-put y (p .«min_distance_scans») n last i k (keptTo p y (i - 1)) (h .count) (h .is-newest) s in
-        let e : length (keptTo p y i) ≡ suc (length (w .0)) = ap length (found-apex p y i a pos f .1 ∙ w .1) in
-        omega (arith, kept-to-count p y i, w .2 .count)
-
-    pub turn-skip : (a : Measured) → foundAt p y i ≡ Apex a → slotOf y (p .«min_distance_scans») n last i ≡ Skip → Held (keptTo p y i) d out n last
-    turn-skip a f s =
-        rw (found-apex p y i a pos f .1, slot-skip y (p .«min_distance_scans») n last i (keptTo p y (i - 1)) (h .count) (h .is-newest) s) h
-
-    pub turn-nothing : foundAt p y i ≡ Nothing → Held (keptTo p y i) d out n last
-    turn-nothing f = rw (found-nothing p y i pos f) h
+  -- one more record behind them
+  pub one-listed : (es d out next : List ℕ) (n i : ℕ) (peak : ImPeak1D) → Listed es d out n → peak ≡ peakOf place bounds mobility axis y z i (first + n)
+      → next ≡ withPeak out n peak → Listed (i ∷ es) d next (n + 1)
+  unfolding rowWords withPeak
+  one-listed es d out next n i peak h e o =
+      let W = rowWords place bounds mobility axis y z first es in
+      let R = drop (n * size) d in
+      let l : length W ≡ n * size = row-words-length place bounds mobility axis y z first es ∙ ap (λ (k : ℕ). k * size) (sym (h .count)) in
+      let t : take (n * size) out ≡ W = ap (take (n * size)) (h .front) ∙ take-at W R (n * size) l in
+      let m : n * size + size ≡ (n + 1) * size = omega arith in
+      let b : drop (n * size + size) out ≡ drop ((n + 1) * size) d =
+      ap (drop (n * size + size)) (h .front) ∙ subst (λ (k : ℕ). drop (k + size) (W ++ R) ≡ drop size R) l (drop-append-add W R size)
+      ∙ drop-drop size (n * size) d ∙ ap (λ (k : ℕ). drop k d) m in
+      record {
+        count = omega (arith, h .count);
+        front = rw (o, e, t, b, ← h .count) (sym (append-assoc W (wordsOf (peakOf place bounds mobility axis y z i (first + n))) (drop ((n + 1) * size) d)));
+      }
 
 -- ---- a row that no number refuses
 

@@ -3,6 +3,6 @@ pub mod Suppression
 pub mod Account
 pub mod Row
 pub mod RowNumber
-pub mod Steps
 pub mod RowLaws
+pub mod Steps
 pub mod RowCases

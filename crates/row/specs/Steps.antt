@@ -1,9 +1,11 @@
--- The steps of the row finder: what it asks of its arguments, what it measures of an apex, and where an apex's record goes.
+-- The steps of the row finder: what it asks of its arguments, what it measures of an apex, and how the search goes from one
+-- kept apex to the next.
 use mathlib.Core.Path.{_≡_}
-use mathlib.Core.Bool.{cond}
-use mathlib.Core.List.{List}
+use mathlib.Core.Bool.{Bool, true, false, cond}
+use mathlib.Core.List.{List, [], _∷_}
+use mathlib.Core.Logic.{_⊎_}
 use Prim.Native.Nat.{ℕ, _+_, _-_, _*_, _^_, _≤_, _<_}
-use lib.Dec.{ltb, eqb}
+use lib.Dec.{ltb}
 use lib.ListN.{length}
 use lib.Ieee.{Float, le}
 use Rattle.numeric.specs.Arith.{at}
@@ -15,8 +17,12 @@ use Rattle.row.specs.Row.{leftX, rightX, width, qualifies}
 use Rattle.row.specs.declared.inner.Measured.{Measured}
 use Rattle.row.specs.declared.inner.Found.{Found}
 use Rattle.row.specs.declared.inner.Found.the-variants.{Apex, Nothing}
-use Rattle.row.specs.declared.inner.Slot.{Slot}
-use Rattle.row.specs.declared.inner.Slot.the-variants.{Put, Skip}
+use Rattle.row.specs.declared.inner.Turn.{Turn}
+use Rattle.row.specs.declared.inner.Turn.the-variants.{Hold, Pass, Settle}
+use Rattle.row.specs.declared.inner.Search.{Search}
+use Rattle.row.specs.declared.inner.Step.{Step}
+use Rattle.row.specs.declared.inner.Step.the-variants.{Peak, End}
+use Rattle.row.specs.RowLaws.{keptTo}
 
 -- The row finder's arguments: rows and scan axis of one length; room for the words, and identities, of all the peaks that a
 -- row of that length can have.
@@ -39,10 +45,9 @@ judged p y i = cond (qualifies p y i) (Apex (measuredOf y i)) Nothing
 unfoldable pub foundAt : ImDetectParams → List Float → ℕ → Found
 foundAt p y i = cond (isCandidate y i) (judged p y i) Nothing
 
--- the place of the apex at i after n others, the newest of which is at `last`: behind them, or over the newest, or none
-unfoldable pub slotOf : List Float → ℕ → ℕ → ℕ → ℕ → Slot
-slotOf y d n last i =
-    cond (eqb n 0) (Put 0) (cond (ltb (i - last) d) (cond (le (at y i) (at y last)) Skip (Put (n - 1))) (Put n))
+-- what becomes of the apex at i, where `last` is the held one, if one is held
+unfoldable pub turnOf : List Float → ℕ → Bool → ℕ → ℕ → Turn
+turnOf y d held last i = cond held (cond (ltb (i - last) d) (cond (le (at y i) (at y last)) Pass Hold) Settle) Hold
 
 -- what is measured of an apex inside of the row
 pub record Inside (y z : List Float) (axis : List ℕ) (a : Measured) : Type 0 where
@@ -52,3 +57,52 @@ pub record Inside (y z : List Float) (axis : List ℕ) (a : Measured) : Type 0 w
   pub raw : length z ≡ length y
   pub scans : length axis ≡ length y
   pub short : length y ≤ 16777216
+
+-- ---- the search
+
+-- the next index and the held apex's are inside of the row; past its last apex the next index is its last one
+pub record Placed (y : List Float) (s : Search) : Type 0 where
+  pub low : 1 ≤ s .next
+  pub high : s .next - 1 ≤ length y - 2
+  pub behind : s .last .index < s .next
+
+-- a held apex is the newest that is kept of the indices below the next one
+pub record HeldApex (p : ImDetectParams) (y : List Float) (s : Search) (es : List ℕ) : Type 0 where
+  pub is : s .last ≡ measuredOf y (s .last .index)
+  pub inner : 0 < s .last .index
+  pub newest : keptTo p y (s .next - 1) ≡ s .last .index ∷ es
+
+-- where none is held, none was found yet or all are answered
+pub record NoneHeld (p : ImDetectParams) (y : List Float) (s : Search) (es : List ℕ) : Type 0 where
+  pub all : keptTo p y (s .next - 1) ≡ es
+  pub ends : (es ≡ []) ⊎ (s .next - 1 ≡ length y - 2)
+
+-- The apexes es, answered so far, the newest first, and the held one are what is kept of the indices below the next one.
+pub record Stands (p : ImDetectParams) (y : List Float) (s : Search) (es : List ℕ) : Type 0 where
+  pub placed : Placed y s
+  pub one : s .held ≡ true → HeldApex p y s es
+  pub none : s .held ≡ false → NoneHeld p y s es
+
+-- a search from which nothing is answered yet, in any row
+abbrev pub Starts : Search → Type 0
+Starts s = (p : ImDetectParams) (y : List Float) → Stands p y s []
+
+-- how far a search has to go, at most; each answer makes it less
+abbrev pub toGo : List Float → Search → ℕ
+toGo y s = 2 * (length y - s .next) + cond (s .held) 1 0
+
+-- the apex m, answered after es, and the search t from there on
+pub record Answered (p : ImDetectParams) (y : List Float) (s : Search) (es : List ℕ) (m : Measured) (t : Search) : Type 0 where
+  pub is : m ≡ measuredOf y (m .index)
+  pub low : 0 < m .index
+  pub high : m .index + 1 < length y
+  pub stands : Stands p y t (m .index ∷ es)
+  pub less : toGo y t < toGo y s
+
+-- The next answer after es: one more apex that is kept, or the end, where es are all that are kept of the row.
+abbrev pub After : ImDetectParams → List Float → Search → List ℕ → Step → Type 0
+After p y s es (Peak m t) = Answered p y s es m t
+After p y s es End = keptTo p y (length y - 2) ≡ es
+
+abbrev pub Goes : ImDetectParams → List Float → Search → Step → Type 0
+Goes p y s r = (es : List ℕ) → Stands p y s es → After p y s es r

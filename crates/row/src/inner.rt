@@ -5,14 +5,16 @@ use params::RowPlace;
 use params::WindowGroup;
 use record::ImPeak1D;
 ghost use mathlib.Core.Path.{_≡_};
+ghost use mathlib.Core.Bool.{true};
 ghost use mathlib.Core.List.{_++_};
 ghost use Prim.Native.Nat.{_≤_, _<_, _+_, _-_, _*_};
 ghost use lib.ListN.{length, drop};
 ghost use Rattle.numeric.specs.Arith.{𝟎};
 ghost use Rattle.numeric.specs.Numeric.{clampF, castF};
 ghost use Rattle.record.specs.Record.{size};
-ghost use Rattle.row.specs.Row.{highest, reaches, width, subscan, scanAt, mobilityAt, groupFlag, groupWord, mobilityFlag, peakOf, kept, rowWords};
-ghost use Rattle.row.specs.Steps.{Inside, Ready, measuredOf, judged, foundAt, slotOf};
+ghost use Rattle.row.specs.Row.{highest, reaches, subscan, scanAt, mobilityAt, groupFlag, groupWord, mobilityFlag, peakOf, kept, rowWords};
+ghost use Rattle.apex.specs.Apex.{Ground};
+ghost use Rattle.row.specs.Steps.{Inside, Ready, judged, foundAt, turnOf, Placed, Starts, Goes};
 
 // What is measured of an apex.
 pub struct Measured {
@@ -28,14 +30,29 @@ pub enum Found {
     Nothing,
 }
 
-// The place of a record in the list, or none.
-pub enum Slot {
-    Put(usize),
-    Skip,
+// What becomes of an apex that qualifies: it is held as the newest that is kept, or passed over, or it settles the one that
+// is held and is held in its place.
+pub enum Turn {
+    Hold,
+    Pass,
+    Settle,
+}
+
+// A search for the kept apexes of a row: the next index to look at, and the newest apex that is kept so far, if any.
+pub struct Search {
+    pub next: usize,
+    pub held: bool,
+    pub last: Measured,
+}
+
+// The next apex that is kept and the search from there on, or the end.
+pub enum Step {
+    Peak(Measured, Search),
+    End,
 }
 
 // Whether the highest reading of a row, or 0, reaches the floor.
-fn reaches_floor(z: &[f32], floor: f32) -> bool
+pub fn reaches_floor(z: &[f32], floor: f32) -> bool
     ensures { λ r. ⌜ r ≡ reaches floor (highest 𝟎 (now (z .entry))) ⌝ }
 {
     let mut any = !(0.0 < floor);
@@ -46,11 +63,11 @@ fn reaches_floor(z: &[f32], floor: f32) -> bool
 }
 
 // The candidate at i, if it qualifies.
-fn judge(y: &[f32], p: ImDetectParams, i: usize) -> Found
-    requires { ⌜ (i < length (now y)) × (length (now y) ≤ 16777216) ⌝ }
+fn judge(y: &[f32], ground: f32, p: ImDetectParams, i: usize) -> Found
+    requires { ⌜ (i < length (now y)) × (length (now y) ≤ 16777216) × Ground ground (now y) ⌝ }
     ensures { λ r. ⌜ r ≡ judged p (now (y .entry)) i ⌝ }
 {
-    let rise = apex::inner::rise_of(y, i);
+    let rise = apex::inner::rise_of(y, ground, i);
     if rise.prominence < p.min_prom {
         return Found::Nothing;
     }
@@ -70,31 +87,92 @@ fn judge(y: &[f32], p: ImDetectParams, i: usize) -> Found
 }
 
 // The apex at i, if there is one that qualifies.
-fn measure(y: &[f32], p: ImDetectParams, i: usize) -> Found
-    requires { ⌜ (0 < i) × (i + 1 < length (now y)) × (length (now y) ≤ 16777216) ⌝ }
+fn measure(y: &[f32], ground: f32, p: ImDetectParams, i: usize) -> Found
+    requires { ⌜ (0 < i) × (i + 1 < length (now y)) × (length (now y) ≤ 16777216) × Ground ground (now y) ⌝ }
     ensures { λ r. ⌜ r ≡ foundAt p (now (y .entry)) i ⌝ }
 {
     if apex::inner::is_candidate(y, i) {
-        return judge(y, p, i);
+        return judge(y, ground, p, i);
     }
     Found::Nothing
 }
 
-// Where the apex at i goes after n others, the newest of them at `last`.
-fn slot_for(y: &[f32], distance: u32, n: usize, last: usize, i: usize) -> Slot
+// What becomes of the apex at i, where `last` is the held one, if there is any.
+fn turn_for(y: &[f32], distance: u32, any: bool, last: usize, i: usize) -> Turn
     requires { ⌜ (last ≤ i) × (i < length (now y)) ⌝ }
-    ensures { λ r. ⌜ r ≡ slotOf (now (y .entry)) distance n last i ⌝ }
+    ensures { λ r. ⌜ r ≡ turnOf (now (y .entry)) distance any last i ⌝ }
 {
-    if n == 0 {
-        return Slot::Put(0);
-    }
-    if i - last < distance as usize {
-        if y[i] <= y[last] {
-            return Slot::Skip;
+    if any {
+        if i - last < distance as usize {
+            if y[i] <= y[last] {
+                return Turn::Pass;
+            }
+            return Turn::Hold;
         }
-        return Slot::Put(n - 1);
+        return Turn::Settle;
     }
-    Slot::Put(n)
+    Turn::Hold
+}
+
+pub fn search_start() -> Search
+    ensures { λ r. ⌜ Starts r ⌝ }
+{
+    Search {
+        next: 1,
+        held: false,
+        last: Measured {
+            index: 0,
+            prominence: 0.0,
+            left_x: 0.0,
+            right_x: 0.0,
+            width: 0,
+        },
+    }
+}
+
+// The next apex that is kept: the held one, once an apex far enough from it qualifies or the row ends.
+pub fn next_peak(y: &[f32], ground: f32, p: ImDetectParams, s: Search) -> Step
+    requires { ⌜ (length (now y) ≤ 16777216) × Ground ground (now y) × Placed (now y) s ⌝ }
+    ensures { λ r. ⌜ Goes p (now (y .entry)) s r ⌝ }
+{
+    let mut i = s.next;
+    let mut held = s.held;
+    let mut last = s.last;
+    while i + 1 < y.len() {
+        let f = measure(y, ground, p, i);
+        if let Found::Apex(a) = f {
+            let turn = turn_for(y, p.min_distance_scans, held, last.index, i);
+            match turn {
+                Turn::Hold => {
+                    held = true;
+                    last = a;
+                }
+                Turn::Pass => {}
+                Turn::Settle => {
+                    return Step::Peak(
+                        last,
+                        Search {
+                            next: i + 1,
+                            held: true,
+                            last: a,
+                        },
+                    );
+                }
+            }
+        }
+        i += 1;
+    }
+    if held {
+        return Step::Peak(
+            last,
+            Search {
+                next: i,
+                held: false,
+                last,
+            },
+        );
+    }
+    Step::End
 }
 
 fn sample_at(x: f32, last: f32) -> u32
@@ -154,7 +232,7 @@ fn group_word(g: WindowGroup) -> u32
 }
 
 // The peak of an apex.
-fn peak_of(
+pub fn peak_of(
     y: &[f32],
     z: &[f32],
     place: RowPlace,
@@ -205,7 +283,42 @@ fn peak_of(
     }
 }
 
-// Writes the records of the listed peaks to the front of `out` and answers how many there are.
+// Writes the records of the listed peaks of a row that reaches the floor to the front of `out` and answers how many there are.
+pub fn list_peaks(
+    y: &[f32],
+    z: &[f32],
+    place: RowPlace,
+    bounds: FrameBounds,
+    mobility: &[f32],
+    p: ImDetectParams,
+    axis: &[u32],
+    first: u32,
+    out: &mut [u32],
+) -> usize
+    requires { ⌜ Ready (now y) (now z) (now axis) first (length (now out)) × (reaches (p .«min_prom») (highest 𝟎 (now z)) ≡ true) ⌝ }
+    ensures count { λ r. ⌜ r ≡ length (kept p (now (y .entry)) (now (z .entry))) ⌝ }
+    ensures front { λ r. ⌜ now (out .exit) ≡ rowWords place bounds (now (mobility .entry)) (now (axis .entry)) (now (y .entry)) (now (z .entry)) first (kept p (now (y .entry)) (now (z .entry))) ++ drop (r * size) (now (out .entry)) ⌝ }
+{
+    let ground = apex::inner::ground_of(y);
+    let mut n = 0usize;
+    let mut s = search_start();
+    loop {
+        let step = next_peak(y, ground, p, s);
+        match step {
+            Step::Peak(a, t) => {
+                let peak = peak_of(y, z, place, bounds, mobility, axis, a, first + n as u32);
+                record::inner::put_peak(out, n, peak);
+                n += 1;
+                s = t;
+            }
+            Step::End => {
+                return n;
+            }
+        }
+    }
+}
+
+// The same for any row: one that does not reach the floor has no peaks.
 pub fn find_im_peaks_row(
     y: &[f32],
     z: &[f32],
@@ -221,24 +334,8 @@ pub fn find_im_peaks_row(
     ensures count { λ r. ⌜ r ≡ length (kept p (now (y .entry)) (now (z .entry))) ⌝ }
     ensures front { λ r. ⌜ now (out .exit) ≡ rowWords place bounds (now (mobility .entry)) (now (axis .entry)) (now (y .entry)) (now (z .entry)) first (kept p (now (y .entry)) (now (z .entry))) ++ drop (r * size) (now (out .entry)) ⌝ }
 {
-    if !reaches_floor(z, p.min_prom) {
-        return 0;
+    if reaches_floor(z, p.min_prom) {
+        return list_peaks(y, z, place, bounds, mobility, p, axis, first, out);
     }
-    let mut n = 0usize;
-    let mut last = 0usize;
-    let mut i = 1usize;
-    while i + 1 < y.len() {
-        let f = measure(y, p, i);
-        if let Found::Apex(a) = f {
-            let s = slot_for(y, p.min_distance_scans, n, last, i);
-            if let Slot::Put(k) = s {
-                let peak = peak_of(y, z, place, bounds, mobility, axis, a, first + k as u32);
-                record::inner::put_peak(out, k, peak);
-                n = k + 1;
-                last = i;
-            }
-        }
-        i += 1;
-    }
-    n
+    0
 }

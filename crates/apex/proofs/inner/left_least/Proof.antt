@@ -1,6 +1,6 @@
-use Rattle.apex.specs.Apex.{leftOf, upToHigher, least}
-use Rattle.apex.proofs.Laws.{left-cons, left-none, walk-none, walk-on, walk-stop}
 use Rattle.numeric.specs.Arith.{at}
+use Rattle.apex.specs.Apex.{leftOf, upToHigher, least}
+use Rattle.apex.proofs.Laws.{left-cons, left-none, walk-none, walk-on, walk-stop, walk-ground, ground-left}
 use mathlib.Core.Path.{_≡_, sym, _∙_}
 use mathlib.Core.Logic.{⊎-elim}
 use Prim.Native.Nat.{_≤_, _-_}
@@ -10,10 +10,10 @@ use Rattle.apex.proofs.inner.left_least.Statement.{statement}
 use Rattle.apex.proofs.inner.left_least.Tie as tie
 
 abbrev Inv-loop : tie.InvT-loop
-Inv-loop y i apex m₀ l₀ m l = (l ≤ i) × (least apex (upToHigher apex (leftOf y i)) ≡ least m (upToHigher apex (leftOf y l)))
+Inv-loop y ground i apex m₀ l₀ m l = (l ≤ i) × (least apex (upToHigher apex (leftOf y i)) ≡ least m (upToHigher apex (leftOf y l)))
 
 abbrev μ-loop : tie.MeasureT-loop
-μ-loop y i apex m₀ l₀ m l = l
+μ-loop y ground i apex m₀ l₀ m l = l
 
 mul-apex : tie.Need-mul-apex Inv-loop μ-loop
 mul-apex c = search needs
@@ -37,33 +37,39 @@ loop-less : tie.Need-loop-less Inv-loop μ-loop
 loop-less c = search needs
 
 loop-again : tie.Need-loop-again Inv-loop μ-loop
-loop-again c = let l = c .before .before .before .before in
+loop-again c = let l = c .before .before .before .before .before in
     let args = l .before .before .args in
     let y = args .y .now in
     let k = l .loop .l in (
       omega arith,
       l .loop .inv .1
-          ∙ walk-on (at y (args .i)) (l .loop .m) (c .before .if1 .m) (at y (k - 1)) (leftOf y k) (leftOf y (k - 1)) (left-cons y k (omega arith))
-          (⊎-elim (λ w. rw (w .0 .taken, w .1)) (λ w. rw (w .0 .left, w .1)) (c .before .if1 .came))
-          (c .if2 .left),
+          ∙ walk-on (at y (args .i)) (l .loop .m) (c .before .if2 .m) (at y (k - 1)) (leftOf y k) (leftOf y (k - 1)) (left-cons y k (omega arith))
+          (⊎-elim (λ w. rw (w .0 .taken, w .1)) (λ w. rw (w .0 .left, w .1)) (c .before .if2 .came))
+          (c .if3 .left),
     )
 
 returns : tie.Need-returns Inv-loop μ-loop
-returns c = let l = c .before in
+returns c = let l = c .before .before in
+    let s = l .before .before in
+    let y = s .args .y .now in
+    sym (l .loop .inv .1 ∙ walk-ground (s .args .ground) (at y (s .args .i)) (l .loop .m) (leftOf y (l .loop .l)) (s .pre .1 .number) (ground-left (s .args .ground) y (l .loop .l) (s .pre .1 .none)) (c .if1 .left))
+
+returns-2 : tie.Need-returns-2 Inv-loop μ-loop
+returns-2 c = let l = c .before in
     let args = l .before .before .args in
     let y = args .y .now in
     sym (l .loop .inv .1 ∙ walk-none (at y (args .i)) (l .loop .m) (leftOf y (l .loop .l)) (left-none y (l .loop .l) (omega arith)))
 
-returns-2 : tie.Need-returns-2 Inv-loop μ-loop
-returns-2 c = let l = c .before .before .before .before in
+returns-3 : tie.Need-returns-3 Inv-loop μ-loop
+returns-3 c = let l = c .before .before .before .before .before in
     let args = l .before .before .args in
     let y = args .y .now in
     let k = l .loop .l in
     sym
     (l .loop .inv .1
-    ∙ walk-stop (at y (args .i)) (l .loop .m) (c .before .if1 .m) (at y (k - 1)) (leftOf y k) (leftOf y (k - 1)) (left-cons y k (omega arith))
-    (⊎-elim (λ w. rw (w .0 .taken, w .1)) (λ w. rw (w .0 .left, w .1)) (c .before .if1 .came))
-    (c .if2 .taken))
+    ∙ walk-stop (at y (args .i)) (l .loop .m) (c .before .if2 .m) (at y (k - 1)) (leftOf y k) (leftOf y (k - 1)) (left-cons y k (omega arith))
+    (⊎-elim (λ w. rw (w .0 .taken, w .1)) (λ w. rw (w .0 .left, w .1)) (c .before .if2 .came))
+    (c .if3 .taken))
 
 pub left-least-spec : {M : Type 1} → statement M
 left-least-spec =
@@ -80,4 +86,5 @@ left-least-spec =
     loop-less
     loop-again
     returns
-    returns-2)
+    returns-2
+    returns-3)
