@@ -1,10 +1,12 @@
 # What a machine with the Rattle kit alone can do.
 .PHONY: table test
 
-# The main job. Until the printed table is there, it replays the stored answers of the Rust.
+# The main job: the table of document 01's example, or of a file of RFC 4180 lines: make table FILE=readings.csv
+FILE ?= crates/peaktable/stdin
+
 table:
-	rt check replay_answers
-	target/bin/replay_answers <crates/replay_answers/stdin
+	@rt check peaktable >&2
+	@target/bin/peaktable <$(FILE)
 
 # Layout, proofs, must-fail edits and replayed answers; then the comparison with the Rust, where its sources and cargo are.
 test:

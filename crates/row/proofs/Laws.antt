@@ -277,6 +277,7 @@ module _ (d : ℕ) (y : List Float) (last i : ℕ) (ks es : List ℕ) where
       go true false u = let w : _≡_ {A = ℕ} 0 1 = cc in absurd (omega arith)
       go false b u = refl
 
+-- the search that looks at i next
 abbrev pub searchAt : ℕ → Bool → Measured → Search
 searchAt i held last = record { next = i; held = held; last = last }
 
@@ -310,7 +311,7 @@ module _ (p : ImDetectParams) (y : List Float) (i : ℕ) (held : Bool) (last : M
       s
       (omega arith)
 
-  -- .. and if there is none, es are all that are kept
+  -- .. and where none is held, es are all that are kept
   end-none : held ≡ false → length y ≤ i + 1 → keptTo p y (length y - 2) ≡ es
   end-none h e = let q : i - 1 ≡ length y - 2 = omega (arith, st .placed) in rw (← q) (st .none h .all)
 

@@ -60,7 +60,7 @@ pub record Inside (y z : List Float) (axis : List ℕ) (a : Measured) : Type 0 w
 
 -- ---- the search
 
--- the next index and the held apex's are inside of the row; past its last apex the next index is its last one
+-- the next index is one that can be an apex, or else the row's last, and the held apex lies below it
 pub record Placed (y : List Float) (s : Search) : Type 0 where
   pub low : 1 ≤ s .next
   pub high : s .next - 1 ≤ length y - 2
@@ -104,5 +104,6 @@ abbrev pub After : ImDetectParams → List Float → Search → List ℕ → Ste
 After p y s es (Peak m t) = Answered p y s es m t
 After p y s es End = keptTo p y (length y - 2) ≡ es
 
+-- so for whatever apexes the search has answered
 abbrev pub Goes : ImDetectParams → List Float → Search → Step → Type 0
 Goes p y s r = (es : List ℕ) → Stands p y s es → After p y s es r

@@ -1,0 +1,54 @@
+-- The lines that stand at the front of a buffer, and one line more. Assumes nothing.
+use mathlib.Core.Path.{_≡_, refl, sym, _∙_, ap, subst}
+use mathlib.Core.List.{List, [], _∷_, _++_, append-assoc, append-nil}
+use Prim.Native.Nat.{ℕ, _≤_, _+_, _-_, _*_}
+use native.Mathlib.Omega.{arith}
+use borrow.Rule.Slice.PartMut.{putMid}
+use lib.ListN.{length, take, drop, length-append, length-drop, drop-of-length-le}
+use lib.Seq.{take-at, take-all, drop-drop, drop-append-add}
+use lib.Ieee.{Float}
+use Rattle.row.specs.Row.{peakOf}
+use Rattle.table.specs.Print.{peakLine}
+use Rattle.table.specs.Facts.{line-most}
+use Rattle.peaklines.specs.RowLines.{placeOf, noFrames, linesOf}
+
+-- r bytes R, written through the part `&mut out[a..]`
+pub put-part : (out R last : List ℕ) (a r : ℕ) → last ≡ R ++ drop r (take (length out - a) (drop a out))
+    → putMid a (length out - a) out last ≡ take a out ++ (R ++ drop (a + r) out)
+put-part out R last a r hl =
+    let all : take (length out - a) (drop a out) ≡ drop a out = take-all (length out - a) (drop a out) (simp length-drop (omega arith)) in
+    let none : drop (length out - a) (drop a out) ≡ [] = drop-of-length-le (drop a out) {i = length out - a} (simp length-drop (omega arith)) in
+    let l : last ≡ R ++ drop (a + r) out = hl ∙ ap (λ x. R ++ drop r x) all ∙ ap (λ x. R ++ x) (drop-drop r a out) in
+    simp (none, l, append-nil)
+
+-- a line has at most 92 bytes
+pub lines-most : (r : ℕ) (axis : List ℕ) (y : List Float) (es : List ℕ) → length (linesOf r axis y es) ≤ length es * 92
+unfolding linesOf
+lines-most r axis y [] = omega arith
+lines-most r axis y (i ∷ es) =
+    let h = lines-most r axis y es in
+    let l = line-most (peakOf (placeOf r) noFrames [] axis y y i 0) in
+    rw length-append (omega arith)
+
+module _ (r : ℕ) (axis : List ℕ) (y : List Float) where
+  -- the lines of the apexes es stand at the front of the buffer d, and are n bytes
+  pub record Printed (es d out : List ℕ) (n : ℕ) : Type 0 where
+    pub count : n ≡ length (linesOf r axis y es)
+    pub front : out ≡ linesOf r axis y es ++ drop n d
+
+  pub none-printed : (d : List ℕ) → Printed [] d d 0
+  unfolding linesOf
+  none-printed d = record { count = refl; front = refl }
+
+  pub one-printed : (es d out next : List ℕ) (n m i : ℕ) → Printed es d out n → m ≡ n + length (peakLine (peakOf (placeOf r) noFrames [] axis y y i 0))
+      → next ≡ take n out ++ (peakLine (peakOf (placeOf r) noFrames [] axis y y i 0) ++ drop m out) → Printed (i ∷ es) d next m
+  unfolding linesOf
+  one-printed es d out next n m i h e o =
+      let P = linesOf r axis y es in
+      let L = peakLine (peakOf (placeOf r) noFrames [] axis y y i 0) in
+      let t : take n out ≡ P = ap (take n) (h .front) ∙ take-at P (drop n d) n (sym (h .count)) in
+      let s : drop (length P + length L) (P ++ drop n d) ≡ drop (length L) (drop n d) = drop-append-add P (drop n d) (length L) in
+      let k : length P + length L ≡ m = omega (arith, h .count) in
+      let g : drop m out ≡ drop m d =
+      ap (drop m) (h .front) ∙ subst (λ (z : ℕ). drop z (P ++ drop n d) ≡ drop (length L) (drop n d)) k s ∙ drop-drop (length L) n d ∙ ap (λ (z : ℕ). drop z d) (sym e) in
+      record { count = rw length-append (sym k); front = o ∙ rw (t, g) (sym (append-assoc P L (drop m d))) }

@@ -1,0 +1,2 @@
+-- The definitions that the contracts of `peaklines` cite.
+pub mod RowLines

@@ -1,0 +1,2 @@
+// The lines of a row's peaks.
+pub mod inner;

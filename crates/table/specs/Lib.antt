@@ -1,0 +1,7 @@
+-- The definitions that the contracts of `table` cite, and what holds of them.
+pub mod Text
+pub mod Print
+pub mod Facts
+pub mod Table
+pub mod Lines
+pub mod Cases
