@@ -1,8 +1,11 @@
 //! Times both sides on the same inputs, in one thread and one run, and prints how many times faster the port is.
+use crate::cluster::peak::detect_im_peaks_from_tof_scan_grid;
 use crate::cluster::utility::{find_im_peaks_row, smooth_vector_gaussian};
+use crate::grid_level::{grid, rust_grid, rust_params, Lists};
 use crate::inputs::Rng;
 use crate::row_level::{gaussian, most, Row, WORDS};
 use crate::{probe, words};
+use rubzolena::{Grid, TofScale};
 use std::hint::black_box;
 use std::time::Instant;
 
@@ -85,6 +88,44 @@ pub fn run() {
             black_box(probe::smooth_vector_gaussian(black_box(&mut w), &weights, &mut scratch));
         });
         line(&format!("smoothing {n} samples, {} weights", weights.len()), rust, port);
+    }
+    both_grids(&mut r, 4_096, 1_000);
+}
+
+/// Grid detection through the C entry, the list allocated beforehand on the port's side.
+fn both_grids(r: &mut Rng, rows: usize, cols: usize) {
+    for dense in [false, true] {
+        let data: Vec<f32> = (0..rows).flat_map(|_| counts(r, cols, dense)).collect();
+        for smoothing in [None, Some((3.0, 3.0))] {
+            let lists = Lists {
+                data: data.clone(),
+                raw: Vec::new(),
+                scans: (0..cols as u32).collect(),
+                mobility: (0..cols).map(|i| 1.0 + i as f32 / cols as f32).collect(),
+                weights: smoothing.map_or(Vec::new(), |(s, k)| gaussian(s, k)),
+                smoothing,
+            };
+            let plain = Grid {
+                rows,
+                cols,
+                scale: TofScale { tof_min: 0, tof_max: rows as u32 - 1, tof_step: 1, num_bins: rows as u32 },
+                min_prom: 20.0,
+                min_distance_scans: 2,
+                min_width_scans: 2,
+                ..Grid::default()
+            };
+            let g = grid(&lists, plain);
+            let (rust_side, params, mobility) = (rust_grid(&g), rust_params(&g, smoothing), words::mobility(&lists.mobility));
+            let mut out = vec![0u32; g.most_peaks() * WORDS];
+            let rust = best(1, || {
+                black_box(detect_im_peaks_from_tof_scan_grid(black_box(&rust_side), (0, 0), (0, 0), None, mobility, params));
+            });
+            let mut count = 0;
+            let port = best(1, || count = black_box(black_box(&g).detect_into(&mut out)).unwrap());
+            let kind = if dense { "dense" } else { "sparse" };
+            let smooth = if smoothing.is_some() { "smoothed" } else { "plain" };
+            line(&format!("grid {rows} x {cols}, {kind}, {smooth} ({count} peaks)"), rust, port);
+        }
     }
 }
 

@@ -4,6 +4,7 @@
 //! `oracle sample` prints the answers that the program `replay_answers` replays.
 //! `oracle bench` times both sides and prints ratios.
 mod bench;
+mod grid_level;
 mod inputs;
 mod leaves;
 mod probe;
@@ -51,6 +52,7 @@ fn main() {
             rows::compare(&mut tally, count);
             records::compare(&mut tally, count / 10);
             row_level::compare(&mut tally, count / 2);
+            grid_level::compare(&mut tally, count / 10);
             println!("oracle: {} answers compared, {} differ", tally.compared, tally.differ);
             if tally.differ > 0 {
                 std::process::exit(1);

@@ -55,7 +55,7 @@ fn list_peaks(
     ensures count { λ r. ⌜ r ≡ length (kept p (now (y .entry)) (now (z .entry))) ⌝ }
     ensures front { λ r. ⌜ now (out .exit) ≡ rowWords place bounds (now (mobility .entry)) (now (axis .entry)) (now (y .entry)) (now (z .entry)) first (kept p (now (y .entry)) (now (z .entry))) ++ drop (r * size) (now (out .entry)) ⌝ }
 {
-    row::inner::find_im_peaks_row(y, z, place, bounds, mobility, p, axis, first, out)
+    row::inner::list_peaks(y, z, place, bounds, mobility, p, axis, first, out)
 }
 
 // The records of the peaks of a row z, smoothed where weights are given; u are the weights divided by their sum.

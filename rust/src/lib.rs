@@ -1,0 +1,133 @@
+//! Rubzolena's grid detection for Rust programs: safe functions over the C entry. Words and floats are handed over as they lie
+//! in memory, which is the entry's byte rule on a little-endian machine.
+#[cfg(not(target_endian = "little"))]
+compile_error!("the C entry takes little-endian words");
+
+use std::mem::size_of_val;
+use std::slice::{from_raw_parts, from_raw_parts_mut};
+
+extern "C" {
+    fn rubzolena_detect_im_peaks(
+        rows: usize, cols: usize,
+        data: *const u8, data_len: usize, data_raw: *const u8, data_raw_len: usize, scans: *const u8, scans_len: usize,
+        tof_min: u32, tof_max: u32, tof_step: u32, num_bins: u32,
+        rt_lo: u32, rt_hi: u32, frame_id_lo: u32, frame_id_hi: u32, group_flag: u32, window_group: u32,
+        mobility: *const u8, mobility_len: usize,
+        min_prom: f32, min_distance_scans: u32, min_width_scans: u32,
+        weights: *const u8, weights_len: usize, first: u32, out: *mut u8, out_len: usize,
+    ) -> u64;
+}
+
+/// Words of a record.
+pub const WORDS: usize = 27;
+
+/// The scale of the rows: lowest and highest TOF, both multiples of the step, and the count of bins.
+#[derive(Clone, Copy, Debug, Default)]
+pub struct TofScale {
+    pub tof_min: u32,
+    pub tof_max: u32,
+    pub tof_step: u32,
+    pub num_bins: u32,
+}
+
+/// What detection is handed. An empty `data_raw` means that there is none, an empty `mobility` or `weights` likewise.
+#[derive(Clone, Copy, Debug, Default)]
+pub struct Grid<'a> {
+    pub rows: usize,
+    pub cols: usize,
+    pub data: &'a [f32],
+    pub data_raw: &'a [f32],
+    pub scans: &'a [u32],
+    pub scale: TofScale,
+    pub rt_bounds: (u32, u32),
+    pub frame_id_bounds: (u32, u32),
+    pub window_group: Option<u32>,
+    pub mobility: &'a [f32],
+    pub min_prom: f32,
+    pub min_distance_scans: u32,
+    pub min_width_scans: u32,
+    pub weights: &'a [f32],
+    pub first: u32,
+}
+
+/// A mobility peak, as its words stand in a record.
+#[derive(Clone, Copy, Debug, PartialEq)]
+pub struct Peak(pub [u32; WORDS]);
+
+impl Peak {
+    pub fn tof_row(&self) -> u32 {
+        self.0[0]
+    }
+
+    pub fn scan(&self) -> u32 {
+        self.0[10]
+    }
+
+    pub fn mobility(&self) -> Option<f32> {
+        (self.0[8] & 2 != 0).then(|| f32::from_bits(self.0[17]))
+    }
+
+    pub fn apex_raw(&self) -> f32 {
+        f32::from_bits(self.0[19])
+    }
+
+    pub fn prominence(&self) -> f32 {
+        f32::from_bits(self.0[20])
+    }
+
+    pub fn area_raw(&self) -> f32 {
+        f32::from_bits(self.0[24])
+    }
+
+    pub fn id(&self) -> u32 {
+        self.0[26]
+    }
+}
+
+fn bytes<T>(list: &[T]) -> &[u8] {
+    // a list of u32 or f32 is four bytes an element, with no padding
+    unsafe { from_raw_parts(list.as_ptr().cast(), size_of_val(list)) }
+}
+
+impl Grid<'_> {
+    /// The peaks that a grid of these sizes can have.
+    pub fn most_peaks(&self) -> usize {
+        self.rows.saturating_mul(self.cols.saturating_sub(1) / 2)
+    }
+
+    /// Writes the peaks' records to the front of `out`, 27 words each, and answers their count; or answers with a number and
+    /// leaves `out` as it was.
+    pub fn detect_into(&self, out: &mut [u32]) -> Result<usize, u32> {
+        let (data, raw, scans) = (bytes(self.data), bytes(self.data_raw), bytes(self.scans));
+        let (mobility, weights) = (bytes(self.mobility), bytes(self.weights));
+        let room = unsafe { from_raw_parts_mut(out.as_mut_ptr().cast::<u8>(), size_of_val(out)) };
+        let s = self.scale;
+        let answer = unsafe {
+            rubzolena_detect_im_peaks(
+                self.rows, self.cols,
+                data.as_ptr(), data.len(), raw.as_ptr(), raw.len(), scans.as_ptr(), scans.len(),
+                s.tof_min, s.tof_max, s.tof_step, s.num_bins,
+                self.rt_bounds.0, self.rt_bounds.1, self.frame_id_bounds.0, self.frame_id_bounds.1,
+                self.window_group.is_some() as u32, self.window_group.unwrap_or(0),
+                mobility.as_ptr(), mobility.len(),
+                self.min_prom, self.min_distance_scans, self.min_width_scans,
+                weights.as_ptr(), weights.len(), self.first, room.as_mut_ptr(), room.len(),
+            )
+        };
+        match (answer / 64, answer % 64) {
+            (count, 0) => Ok(count as usize),
+            (_, number) => Err(number as u32),
+        }
+    }
+
+    /// The peaks, or a number.
+    pub fn detect(&self) -> Result<Vec<Peak>, u32> {
+        let places = self.most_peaks();
+        if places > 1 << 32 {
+            return self.detect_into(&mut []).map(|_| Vec::new());
+        }
+        let mut out = vec![0u32; places * WORDS];
+        let count = self.detect_into(&mut out)?;
+        Ok(out[..count * WORDS].chunks_exact(WORDS).map(|w| Peak(w.try_into().unwrap())).collect())
+    }
+}
