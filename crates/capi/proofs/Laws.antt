@@ -6,17 +6,17 @@ use Prim.Native.Nat.{ℕ, zero, suc, _+_, _-_, _*_, _/_, _%_, _^_, _≤_, _<_}
 use native.Mathlib.Nat.{mul-le-mul-right, add-mul, mul-zero, mul-div-cancel, mul-mod-left, div-add-mod'}
 use native.Mathlib.Numerals.{add-one}
 use native.Mathlib.Omega.{arith}
-use borrow.Author.Tests.{eq-eqb, ne-eqb, eqb-true, eqb-false, lt-leb}
+use borrow.Author.Tests.{eq-eqb, ne-eqb, eqb-true, eqb-false, lt-leb, ltb-true, ltb-false, leb-true, not-false}
 use borrow.Rule.Slice.PartMut.{putMid}
 use lib.Dec.{T, leb, ltb, eqb}
-use lib.ListN.{length, getD, take, drop, set, length-append, length-take, length-drop, drop-of-length-le, List·getD-append}
-use lib.Seq.{take-all, take-suc, take-at, drop-at, drop-cons, drop-drop, length-take-le, set-at, getD-at, sets-eq}
+use lib.ListN.{length, getD, take, drop, set, length-append, length-take, length-drop, drop-of-length-le, List·getD-append, length-map}
+use lib.Seq.{take-all, take-suc, take-at, drop-at, drop-cons, drop-drop, length-take-le, set-at, getD-at, sets-eq, drop-length}
 use lib.Ieee.{Float, nan, binary32, ofBits, toBits}
 use lib.Ieee.Bits.{toBits-ofBits, nanBits-is}
 use Rattle.numeric.specs.Arith.{at}
 use Rattle.numeric.specs.Numeric.{inRange, allInRange}
 use Rattle.numeric.specs.Refusal.{firstOf}
-use Rattle.numeric.proofs.Laws.{clash, no-nan, is-nan}
+use Rattle.numeric.proofs.Laws.{clash, no-nan, is-nan, and-true, and-assoc}
 use Rattle.record.specs.Record.{size, wordsOf as peakWords, withPeak}
 use Rattle.record.specs.declared.ImPeak1D.{ImPeak1D}
 use Rattle.record.proofs.Laws.{put-part}
@@ -48,15 +48,15 @@ word-get b zero k h = absurd (omega arith)
 word-get b (suc n) k h = go (ltb k n) refl (word-get b n k)
   where
     go : (t : Bool) → ltb k n ≡ t → (k < n → getD (wordsTo b n) k 0 ≡ wordAt b k) → getD (wordsTo b n ++ (wordAt b n ∷ [])) k 0 ≡ wordAt b k
-    go true e r = let l : k < n = borrow.Author.Tests.ltb-true k n e in List·getD-append (wordsTo b n) (wordAt b n ∷ []) 0 k (let w : length (wordsTo b n) ≡ n = words-length b n in omega arith) ∙ r l
+    go true e r = let l : k < n = ltb-true k n e in List·getD-append (wordsTo b n) (wordAt b n ∷ []) 0 k (let w : length (wordsTo b n) ≡ n = words-length b n in omega arith) ∙ r l
     go false e r =
-        let g : n ≤ k = borrow.Author.Tests.ltb-false k n e in
+        let g : n ≤ k = ltb-false k n e in
         let q : k ≡ n = omega arith in
         rw q (getD-at (wordsTo b n) (wordAt b n) [] 0 n (words-length b n))
 
 pub floats-length : (b : List ℕ) → length (floatsOf b) ≡ length b / 4
 unfolding floatsOf
-floats-length b = lib.ListN.length-map (wordsOf b) (ofBits binary32) ∙ words-length b (length b / 4)
+floats-length b = length-map (wordsOf b) (ofBits binary32) ∙ words-length b (length b / 4)
 
 map-get : {A B : Type 0} (f : A → B) (l : List A) (k : ℕ) (d : A) (e : B) → k < length l → getD (map f l) k e ≡ f (getD l k d)
 map-get f [] k d e h = absurd (omega arith)
@@ -77,7 +77,7 @@ fill-turn l d out i z v h g e w =
     rw (e, w, add-one, s, c, append-assoc) (set-at (take i l) (getD d i z) (drop (suc i) d) (getD l i z) i (length-take-le i l (omega arith)))
 
 pub fill-done : {A : Type 0} (l d out : List A) (i : ℕ) → i ≡ length d → out ≡ take i l ++ drop i d → out ≡ take (length d) l
-fill-done l d out i h e = e ∙ rw (h, lib.Seq.drop-length, append-nil)
+fill-done l d out i h e = e ∙ rw (h, drop-length, append-nil)
 
 -- ---- the bytes of words
 pub bytes-append : (v w : List ℕ) → bytesOf (v ++ w) ≡ bytesOf v ++ bytesOf w
@@ -129,24 +129,24 @@ range-word limit w h g = go (ltb 0x7f80_0000 (w % 0x8000_0000)) refl
   where
     go : (b : Bool) → ltb 0x7f80_0000 (w % 0x8000_0000) ≡ b → leb (toBits binary32 (ofBits binary32 w)) limit ≡ leb w limit
     go true e =
-        let k : 0x7f80_0000 < w % 0x8000_0000 = borrow.Author.Tests.ltb-true _ _ e in
+        let k : 0x7f80_0000 < w % 0x8000_0000 = ltb-true _ _ e in
         rw (is-nan w k) (lt-leb _ limit (nan-high limit g) ∙ sym (lt-leb w limit (omega arith)))
     go false e =
-        let k : w % 0x8000_0000 ≤ 0x7f80_0000 = borrow.Author.Tests.ltb-false _ _ e in
+        let k : w % 0x8000_0000 ≤ 0x7f80_0000 = ltb-false _ _ e in
         rw (toBits-ofBits binary32 w h (subst (λ (b : Bool). T (not b)) (nanBits-is binary32 w) (no-nan w k)))
 
 pub up-to-snoc : (limit : ℕ) (ws : List ℕ) (w : ℕ) → allUpTo limit (ws ++ (w ∷ [])) ≡ (allUpTo limit ws && leb w limit)
 unfolding allUpTo
-up-to-snoc limit [] w = Rattle.numeric.proofs.Laws.and-true _
-up-to-snoc limit (v ∷ ws) w = rw (up-to-snoc limit ws w) (Rattle.numeric.proofs.Laws.and-assoc (leb v limit) (allUpTo limit ws) (leb w limit))
+up-to-snoc limit [] w = and-true _
+up-to-snoc limit (v ∷ ws) w = rw (up-to-snoc limit ws w) (and-assoc (leb v limit) (allUpTo limit ws) (leb w limit))
 
 pub range-snoc : (limit : ℕ) (ws : List ℕ) (w : ℕ) → w < 2 ^ 32 → limit < 0x7f80_0000
     → allInRange limit (map (ofBits binary32) (ws ++ (w ∷ []))) ≡ (allInRange limit (map (ofBits binary32) ws) && leb w limit)
 unfolding allInRange
-range-snoc limit [] w h g = rw (range-word limit w h g) (Rattle.numeric.proofs.Laws.and-true _)
+range-snoc limit [] w h g = rw (range-word limit w h g) (and-true _)
 range-snoc limit (v ∷ ws) w h g =
     rw (range-snoc limit ws w h g)
-    (Rattle.numeric.proofs.Laws.and-assoc (inRange limit (ofBits binary32 v)) (allInRange limit (map (ofBits binary32) ws)) (leb w limit))
+    (and-assoc (inRange limit (ofBits binary32 v)) (allInRange limit (map (ofBits binary32) ws)) (leb w limit))
 
 -- ---- the record of a peak
 
@@ -395,7 +395,7 @@ neither false b h = (refl, h)
 
 -- sizes that numbers 1 and 2 do not refuse
 pub small-sizes : (rows cols : ℕ) → (ltb 4194304 rows || ltb 16384 cols) ≡ false → (rows ≤ 4194304) × (cols ≤ 16384)
-small-sizes rows cols h = let n = neither (ltb 4194304 rows) (ltb 16384 cols) h in (borrow.Author.Tests.ltb-false 4194304 rows (n .0), borrow.Author.Tests.ltb-false 16384 cols (n .1))
+small-sizes rows cols h = let n = neither (ltb 4194304 rows) (ltb 16384 cols) h in (ltb-false 4194304 rows (n .0), ltb-false 16384 cols (n .1))
 
 pub few-peaks : (rows cols : ℕ) → rows ≤ 4194304 → cols ≤ 16384 → rows * mostPeaks cols ≤ 34359738368
 few-peaks rows cols h g = let b : rows * mostPeaks cols ≤ 4194304 * mostPeaks cols = mul-le-mul-right (mostPeaks cols) h in omega arith
@@ -434,7 +434,7 @@ weights-size ws h = go (eqb (length ws) 0) refl h
     go : (a : Bool) → eqb (length ws) 0 ≡ a → (a || soundWeights ws) ≡ true → length ws ≤ 257
     go true e k = omega (arith, eqb-true (length ws) 0 e)
     go false e k =
-        borrow.Author.Tests.leb-true (length ws) 257 (both (eqb (length ws % 2) 1) (leb (length ws) 257) (both _ _ (both _ _ k .0) .0) .1)
+        leb-true (length ws) 257 (both (eqb (length ws % 2) 1) (leb (length ws) 257) (both _ _ (both _ _ k .0) .0) .1)
 
 pub ready : (g : Grid) (rows room : ℕ) → gridNumber g rows (room / 4) (g .cols) ≡ 0 → Ready g rows room
 unfolding gridNumber firstOf
@@ -451,26 +451,26 @@ ready g rows room e =
     let c20 = none-first (ltb (room / 4) (peaks * size)) 20 _ (omega arith) (c7 .1) in
     let c21 = none-first (ltb n n) 21 _ (omega arith) (c20 .1) in
     let c22 = none-first (not (agreeing (g .scale))) 22 _ (omega arith) (c21 .1) in
-    let l = both (eqb (length (g .used)) (rows * n) && eqb (length (g .scans)) n && lentOrEmpty n (g .mobility)) (eqb rows (g .scale .«num_bins»)) (borrow.Author.Tests.not-false _ (c1 .0)) in
+    let l = both (eqb (length (g .used)) (rows * n) && eqb (length (g .scans)) n && lentOrEmpty n (g .mobility)) (eqb rows (g .scale .«num_bins»)) (not-false _ (c1 .0)) in
     let m = both (eqb (length (g .used)) (rows * n) && eqb (length (g .scans)) n) (lentOrEmpty n (g .mobility)) (l .0) in
     let k = both (eqb (length (g .used)) (rows * n)) (eqb (length (g .scans)) n) (m .0) in
     let s = small-sizes rows n (c2 .0) in
-    let v = both (soundParams (g .params) && allInRange 0x4980_0000 (g .mobility) && soundBounds (g .bounds) && soundStep (g .scale .«tof_step»)) (enoughIds (g .first) peaks) (borrow.Author.Tests.not-false _ (c4 .0)) in
+    let v = both (soundParams (g .params) && allInRange 0x4980_0000 (g .mobility) && soundBounds (g .bounds) && soundStep (g .scale .«tof_step»)) (enoughIds (g .first) peaks) (not-false _ (c4 .0)) in
     let w = both (soundParams (g .params) && allInRange 0x4980_0000 (g .mobility) && soundBounds (g .bounds)) (soundStep (g .scale .«tof_step»)) (v .0) in
-    let x = both (allUpTo 65535 (g .scans)) (soundEnds (g .scale)) (borrow.Author.Tests.not-false _ (c5 .0)) in
+    let x = both (allUpTo 65535 (g .scans)) (soundEnds (g .scale)) (not-false _ (c5 .0)) in
     let q : length (g .used) ≡ rows * n = eqb-true (length (g .used)) (rows * n) (k .0) in
     let t : rows ≡ g .scale .«num_bins» = eqb-true rows (g .scale .«num_bins») (l .1) in
-    let y : peaks * size ≤ room / 4 = borrow.Author.Tests.ltb-false (room / 4) (peaks * size) (c20 .0) in
+    let y : peaks * size ≤ room / 4 = ltb-false (room / 4) (peaks * size) (c20 .0) in
     record {
       readings = omega arith;
       scans = eqb-true (length (g .scans)) n (k .1);
       short = s .1;
       table = table-size (length (g .mobility)) n (m .1) (s .1);
-      scale = record { step = w .1; ends = x .1; agree = borrow.Author.Tests.not-false _ (c22 .0) };
+      scale = record { step = w .1; ends = x .1; agree = not-false _ (c22 .0) };
       bins = omega arith;
-      weights = weights-size (g .weights) (borrow.Author.Tests.not-false _ (c6 .0));
+      weights = weights-size (g .weights) (not-false _ (c6 .0));
       bytes = omega arith;
-      ids = borrow.Author.Tests.leb-true (g .first + peaks) (2 ^ 32) (v .1);
+      ids = leb-true (g .first + peaks) (2 ^ 32) (v .1);
     }
 
 -- the count of peaks fits an answer

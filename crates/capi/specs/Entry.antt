@@ -2,7 +2,7 @@
 use mathlib.Core.Path.{_≡_}
 use mathlib.Core.Bool.{Bool, cond, _&&_, _||_}
 use mathlib.Core.List.{List, _++_}
-use Prim.Native.Nat.{ℕ, _+_, _*_, _/_, _%_}
+use Prim.Native.Nat.{ℕ, _*_, _/_, _%_}
 use lib.Dec.{ltb, eqb}
 use lib.ListN.{length, drop}
 use lib.Ieee.{Float}
@@ -51,20 +51,24 @@ scaleOf least most step bins = record { «tof_min» = least; «tof_max» = most;
 abbrev pub paramsOf : Float → ℕ → ℕ → ImDetectParams
 paramsOf prom distance width = record { «min_prom» = prom; «min_distance_scans» = distance; «min_width_scans» = width }
 
--- the grid of lists of bytes
-abbrev pub entryGrid : ℕ → List ℕ → List ℕ → TofScale → FrameBounds → List ℕ → ImDetectParams → List ℕ → ℕ → Grid
-entryGrid cols used scans scale bounds mobility p weights first =
+-- the grid of lists, and of lists in bytes
+abbrev pub gridOf : ℕ → List Float → List ℕ → TofScale → FrameBounds → List Float → ImDetectParams → List Float → ℕ → Grid
+gridOf cols used scans scale bounds mobility p weights first =
     record {
       cols = cols;
-      used = floatsOf used;
-      scans = wordsOf scans;
+      used = used;
+      scans = scans;
       scale = scale;
       bounds = bounds;
-      mobility = floatsOf mobility;
+      mobility = mobility;
       params = p;
-      weights = floatsOf weights;
+      weights = weights;
       first = first;
     }
+
+abbrev pub entryGrid : ℕ → List ℕ → List ℕ → TofScale → FrameBounds → List ℕ → ImDetectParams → List ℕ → ℕ → Grid
+entryGrid cols used scans scale bounds mobility p weights first =
+    gridOf cols (floatsOf used) (wordsOf scans) scale bounds (floatsOf mobility) p (floatsOf weights) first
 
 -- ---- the answer
 

@@ -14,7 +14,6 @@ use Rattle.smoothing.specs.Smoothing.{normalised}
 use Rattle.row.specs.Row.{kept, rowWords}
 use Rattle.row.specs.Steps as row
 use Rattle.tof.specs.Tof.{Sound, rowPlace}
-use Rattle.tof.specs.declared.TofScale.{TofScale}
 use Rattle.grid.specs.Grid.{Grid, rowOf, searched, listedIn, countTo, wordsTo as gridWords}
 use Rattle.capi.specs.Bytes.{bytesOfWord, bytesOf}
 
@@ -28,21 +27,6 @@ unfoldable pub withRecord : List ℕ → ℕ → ImPeak1D → List ℕ
 withRecord b k p = take (k * 108) b ++ (bytesOf (peakWords p) ++ drop (k * 108 + 108) b)
 
 -- ---- one row
-
--- the grid of lists
-abbrev pub gridOf : ℕ → List Float → List ℕ → TofScale → FrameBounds → List Float → ImDetectParams → List Float → ℕ → Grid
-gridOf cols used scans scale bounds mobility p weights first =
-    record {
-      cols = cols;
-      used = used;
-      scans = scans;
-      scale = scale;
-      bounds = bounds;
-      mobility = mobility;
-      params = p;
-      weights = weights;
-      first = first;
-    }
 
 -- A row z that is handed in: what the row finder asks, a scratch as long as the row, and weights u that were divided.
 pub record Handed (z : List Float) (axis : List ℕ) (weights u : List Float) (first room scratch : ℕ) : Type 0 where

@@ -17,8 +17,8 @@ ghost use Rattle.smoothing.specs.Smoothing.{normalised};
 ghost use Rattle.row.specs.Row.{highest, reaches, kept, rowWords};
 ghost use Rattle.row.specs.Steps as row;
 ghost use Rattle.capi.specs.Bytes.{wordAt, wordsOf, floatsOf, bytesOf};
-ghost use Rattle.capi.specs.Entry.{entryGrid};
-ghost use Rattle.capi.specs.Steps.{withWord, withRecord, gridOf, Handed, Listed, RowReady, RowDone, Ready, Done};
+ghost use Rattle.capi.specs.Entry.{gridOf, entryGrid};
+ghost use Rattle.capi.specs.Steps.{withWord, withRecord, Handed, Listed, RowReady, RowDone, Ready, Done};
 
 // ---- words in bytes
 

@@ -1,6 +1,6 @@
 use Rattle.grid.specs.Grid.{Grid}
 use Rattle.capi.specs.Bytes.{floatsOf}
-use Rattle.capi.specs.Steps.{gridOf}
+use Rattle.capi.specs.Entry.{gridOf}
 use Rattle.capi.proofs.Laws.{floats-length, row-handed, row-done}
 use mathlib.Core.Path.{_≡_, _∙_, ap}
 use Prim.Native.Nat.{ℕ, _*_}

@@ -4,7 +4,8 @@ use lib.Seq.{take-at, length-take-le}
 use lib.ListN.{length-append}
 use Rattle.grid.specs.Grid.{Grid}
 use Rattle.capi.specs.Bytes.{floatsOf}
-use Rattle.capi.specs.Steps.{gridOf, Ready, Done}
+use Rattle.capi.specs.Entry.{gridOf}
+use Rattle.capi.specs.Steps.{Ready, Done}
 use Rattle.capi.proofs.Laws.{floats-length, decoded-floats, decode-from}
 use mathlib.Core.Path.{sym, _∙_, ap, subst}
 use mathlib.Core.List.{List}

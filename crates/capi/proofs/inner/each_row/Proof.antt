@@ -3,7 +3,8 @@ use borrow.Rule.Slice.PartMut.{same-len-mid}
 use Rattle.params.specs.Params.{mostPeaks}
 use Rattle.grid.specs.Grid.{Grid}
 use Rattle.capi.specs.Bytes.{floatsOf}
-use Rattle.capi.specs.Steps.{gridOf, numbered, Done}
+use Rattle.capi.specs.Entry.{gridOf}
+use Rattle.capi.specs.Steps.{numbered, Done}
 use Rattle.capi.proofs.Laws.{listed-bound, done-start, turn-most, turn-ids, turn-room, turn-ready, turn-done}
 use mathlib.Core.Path.{_≡_, refl, _∙_}
 use Prim.Native.Nat.{_≤_, _<_, _-_, _+_, _*_}
