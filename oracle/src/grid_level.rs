@@ -1,9 +1,9 @@
 //! Grid detection through the C entry, answers and refusals, with the lent list compared before and after.
 use crate::cluster::peak::{detect_im_peaks_from_tof_scan_grid, ImDetectParams, TofScanGrid};
-use crate::cluster::utility::TofScale;
 use crate::inputs::{any, row, Rng};
 use crate::leaves::in_range;
 use crate::row_level::{gaussian, most, sigma, sound_weights, WORDS};
+use crate::tof_level::{disagrees, rust_scale};
 use crate::{words, Tally};
 use rubzolena::Grid;
 
@@ -22,8 +22,8 @@ pub fn grid<'a>(l: &'a Lists, plain: Grid<'static>) -> Grid<'a> {
     Grid { data: &l.data, data_raw: &l.raw, scans: &l.scans, mobility: &l.mobility, weights: &l.weights, ..plain }
 }
 
-/// Document 01's number, 0 for none.
-fn number(g: &Grid, room: usize) -> u32 {
+/// Document 01's number, 0 for none, with that much room in the list and that much scratch.
+pub fn number(g: &Grid, room: usize, space: usize) -> u32 {
     let used = if g.data_raw.is_empty() { g.data } else { g.data_raw };
     let (rows, cols, s) = (g.rows as u128, g.cols as u128, g.scale);
     let peaks = rows * (cols.max(1) - 1).div_euclid(2);
@@ -64,28 +64,21 @@ fn number(g: &Grid, room: usize) -> u32 {
     if (room as u128) < peaks * WORDS as u128 {
         return 20;
     }
-    if s.tof_min % s.tof_step != 0
-        || s.tof_max % s.tof_step != 0
-        || s.tof_max < s.tof_min
-        || s.num_bins != (s.tof_max - s.tof_min) / s.tof_step + 1
-    {
-        return 22;
+    if space < g.cols {
+        return 21;
     }
-    0
+    if disagrees(&s) { 22 } else { 0 }
 }
 
 /// The Rust's grid and parameters.
 pub fn rust_grid(g: &Grid) -> TofScanGrid {
-    let s = g.scale;
-    let edges: Vec<f32> = (0..=s.num_bins).map(|i| (s.tof_min + i * s.tof_step) as f32).collect();
-    let centers = edges.windows(2).map(|e| 0.5 * (e[0] + e[1])).collect();
     TofScanGrid {
         scans: g.scans.iter().map(|v| *v as usize).collect(),
         data: g.data.to_vec(),
         rows: g.rows,
         cols: g.cols,
         data_raw: (!g.data_raw.is_empty()).then(|| g.data_raw.to_vec()),
-        scale: TofScale { tof_min: s.tof_min as i32, tof_max: s.tof_max as i32, tof_step: s.tof_step as i32, edges, centers },
+        scale: rust_scale(&g.scale),
     }
 }
 
@@ -100,7 +93,8 @@ pub fn rust_params(g: &Grid, smoothing: Option<(f32, f32)>) -> ImDetectParams {
     }
 }
 
-fn rust(g: &Grid, smoothing: Option<(f32, f32)>) -> Vec<u32> {
+/// The Rust's list, as words.
+pub fn rust(g: &Grid, smoothing: Option<(f32, f32)>) -> Vec<u32> {
     let bounds = (g.rt_bounds.0 as usize, g.rt_bounds.1 as usize);
     let peaks = detect_im_peaks_from_tof_scan_grid(
         &rust_grid(g),
@@ -113,7 +107,7 @@ fn rust(g: &Grid, smoothing: Option<(f32, f32)>) -> Vec<u32> {
     words::list(&peaks, g.first)
 }
 
-fn sample(r: &mut Rng) -> (Lists, Grid<'static>) {
+pub fn sample(r: &mut Rng) -> (Lists, Grid<'static>) {
     let rows = match r.below(200) {
         0 => 2_000 + r.below(3_000) as usize,
         _ => 1 + r.below(6) as usize,
@@ -159,13 +153,23 @@ fn sample(r: &mut Rng) -> (Lists, Grid<'static>) {
     (Lists { data, raw, scans, mobility, weights, smoothing }, plain)
 }
 
-fn spoil(r: &mut Rng, l: &mut Lists, g: &mut Grid<'static>, room: &mut usize) {
+/// Makes the grid one of zeros, of another size, with all its lengths in agreement.
+fn resize(l: &mut Lists, g: &mut Grid<'static>, rows: usize, cols: usize) {
+    (g.rows, g.cols, g.scale.num_bins) = (rows, cols, rows as u32);
+    (l.data, l.raw) = (vec![0.0; rows * cols], Vec::new());
+    l.scans = (0..cols as u32).collect();
+    l.mobility.clear();
+}
+
+pub fn spoil(r: &mut Rng, l: &mut Lists, g: &mut Grid<'static>, room: &mut usize) {
     let one = |r: &mut Rng, list: &mut Vec<f32>| {
         if let Some(at) = list.len().checked_sub(1) {
             list[r.below(at as u64 + 1) as usize] = any(r);
         }
     };
-    match r.below(20) {
+    match r.below(22) {
+        20 if r.one_in(9) => resize(l, g, 1, 16_385),
+        20 | 21 => resize(l, g, 4_194_305, 0),
         0 => l.raw.push(1.0),
         1 => l.scans.push(65_535),
         2 => l.mobility.push(1.0),
@@ -201,7 +205,7 @@ pub fn compare(t: &mut Tally, count: u64) {
         let before: Vec<u32> = (0..room).map(|k| k as u32 ^ 0x5555_5555).collect();
         let (mut out, mut expected) = (before.clone(), before);
         let port = g.detect_into(&mut out);
-        let refusal = number(&g, room);
+        let refusal = number(&g, room, usize::MAX);
         let mut answer = Err(refusal);
         if refusal == 0 {
             let list = rust(&g, lists.smoothing);

@@ -1,7 +1,7 @@
 //! Compares the port with the Rust that it ports, bit for bit.
 //!
 //! `oracle compare [N]` compares every function on N seeded inputs (a million by default) and exits with 1 on a difference.
-//! `oracle sample` prints the answers that the program `replay_answers` replays.
+//! `oracle sample [SEED TIMES]` prints the answers that the program `replay_answers` replays; those stored beside it by default.
 //! `oracle bench` times both sides and prints ratios.
 mod bench;
 mod grid_level;
@@ -12,6 +12,7 @@ mod records;
 mod row_level;
 mod rows;
 mod sample;
+mod tof_level;
 mod words;
 
 #[allow(dead_code, unused_imports, unused_variables)]
@@ -58,10 +59,13 @@ fn main() {
                 std::process::exit(1);
             }
         }
-        Some("sample") => sample::print(),
+        Some("sample") => {
+            let given = |k: usize, other| words.get(k).map_or(other, |n| n.parse().expect("a number"));
+            sample::print(given(2, 4), given(3, 1) as u32);
+        }
         Some("bench") => bench::run(),
         _ => {
-            eprintln!("usage: oracle compare [N] | oracle sample | oracle bench");
+            eprintln!("usage: oracle compare [N] | oracle sample [SEED TIMES] | oracle bench");
             std::process::exit(2);
         }
     }

@@ -1,14 +1,15 @@
-//! The stored answers that the program `replay_answers` replays: document 01's corners first, then seeded inputs.
+//! The answers that the program `replay_answers` replays: document 01's corners first, then seeded inputs.
 use crate::inputs::{any, length, place, row, Rng};
 use crate::leaves::area;
-use crate::row_level;
 use crate::rows::unfiltered;
-use crate::{bits, cluster::utility, records};
+use crate::tof_level::{self, Asked};
+use crate::{bits, cluster::utility, grid_level, records, row_level};
+use rubzolena::{Grid, TofScale};
 
 const HEAD: &str = "\
 # Answers of the Rust, replayed by the program beside this file.
-# Made by 'oracle sample' (oracle/src/sample.rs, seed 4) from utility.rs of ms-io, repository MS-Simulation/mscore at
-# f9e2c8ac42, unchanged, in a release build. Numbers of document 01 and soundness of records (number 9), of which the Rust
+# Made by 'oracle sample' (oracle/src/sample.rs, seed 4) from utility.rs and peak.rs of ms-io, repository MS-Simulation/mscore
+# at f9e2c8ac42, unchanged, in a release build. Numbers of document 01 and soundness of records (number 9), of which the Rust
 # knows nothing, are the comparison's own, written from document 01.
 # A line: function, arguments, answer, as hexadecimal words; floats as bit patterns, every NaN as 7fc00000.
 #  1 max a b      2 min a b    3 abs x     4 clamp x lo hi   5 floor x   6 ceil x   7 round x
@@ -18,14 +19,23 @@ const HEAD: &str = "\
 # 20 row finder: lengths of smoothed row, raw row, scan axis and mobility table, places of the list; TOF row, centre and bounds;
 #    frames and frame numbers; group (0 or 1) and its number; floor, least distance, least width; first identity; the four
 #    lists; then the number, the count and the words of the list
-# 21 smoothing: lengths of row, weights and scratch; row and weights; then the number and the row afterwards";
+# 21 smoothing: lengths of row, weights and scratch; row and weights; then the number and the row afterwards
+# A scale is its lowest and highest TOF, step and count of bins. An answer of a scale is 0 and two words, 1 for none, or 2 and
+# the number.
+# 28 scale of TOF values: step, count, values; then 0 and the scale, 1 for none, or 2 and the number
+# 29 bin of a TOF: scale, TOF   2a bins of a window: scale, two TOFs   2b centre of a bin: scale, bin
+# 2c centre at a place: scale, place   2d edges of a bin: scale, bin
+# 30 grid: rows, columns; lengths of data, raw data, scans, mobility table, weights and scratch, places of the list; scale; frames
+#    and frame numbers; group (0 or 1) and its number; floor, least distance, least width; first identity; the five lists; then
+#    the number, the count and the words of the list";
 
 fn line(function: u32, words: &[u32]) {
     let text: Vec<String> = words.iter().map(|w| format!("{w:x}")).collect();
     println!("{function:x} {}", text.join(" "));
 }
 
-pub fn print() {
+/// Prints the corners, and seeded inputs of every kind that many times over.
+pub fn print(seed: u64, times: u32) {
     println!("{HEAD}");
     println!("# Minus zero on a symmetric apex, plus zero where it bends less than 1e-12, and where the bend rounds to 0.");
     for y in [[4.0, 8.0, 4.0], [0.0, 1e-45, 0.0], [0.0, 1e-13, 0.0], [16777215.0, 16777216.0, 16777216.0]] {
@@ -50,8 +60,8 @@ pub fn print() {
     areas(&[1.0, 4294967296.0], -0.0, 1.0);
     areas(&[1.0, 2.0], 0.0, 65535.004);
     println!("# Seeded inputs.");
-    let mut r = Rng::new(4);
-    for _ in 0..60 {
+    let mut r = Rng::new(seed);
+    for _ in 0..60 * times {
         let (x, y, z) = (any(&mut r), any(&mut r), any(&mut r));
         if x != y {
             line(1, &[bits(x), bits(y), bits(x.max(y))]);
@@ -81,7 +91,7 @@ pub fn print() {
         row_line(&row_level::case(raw, *floor, *distance));
     }
     println!("# Rows, whole and spoilt.");
-    for _ in 0..250 {
+    for _ in 0..250 * times {
         let mut row = row_level::sample(&mut r);
         while r.one_in(4) {
             row_level::spoil(&mut r, &mut row);
@@ -92,7 +102,7 @@ pub fn print() {
         }
     }
     println!("# Smoothing.");
-    for _ in 0..60 {
+    for _ in 0..60 * times {
         let n = length(&mut r).min(30);
         let (sigma, truncate) = row_level::sigma(&mut r);
         let weights = row_level::gaussian(sigma, truncate);
@@ -100,6 +110,71 @@ pub fn print() {
             smoothing_line(&row(&mut r, n), &weights, sigma, truncate);
         }
     }
+    println!("# Document 01's case (h), TOF 0 to 10 and step 4: three bins, 8 in bin 2, 9 in none; case (l): the centre 7.5, which a record rounds to 8.");
+    build_line(&[0, 10], 4, 1);
+    let three = TofScale { tof_min: 0, tof_max: 8, tof_step: 4, num_bins: 3 };
+    for tof in [0, 3, 4, 8, 9, 10] {
+        scale_line(&three, Asked::Bin(tof));
+    }
+    scale_line(&TofScale { tof_min: 7, tof_max: 9, tof_step: 1, num_bins: 3 }, Asked::Center(0));
+    println!("# One distinct TOF gives no scale.");
+    build_line(&[7, 7, 7], 1, 2);
+    println!("# TOF scales.");
+    for _ in 0..80 * times {
+        let (tofs, step) = tof_level::tofs(&mut r);
+        build_line(&tofs, step, 1 + r.below(5) as usize);
+    }
+    for _ in 0..400 * times {
+        let scale = tof_level::scale(&mut r);
+        let asked = tof_level::asked(&mut r, &scale);
+        scale_line(&scale, asked);
+    }
+    println!("# Grids, whole and spoilt.");
+    for _ in 0..150 * times {
+        let (mut lists, mut plain) = grid_level::sample(&mut r);
+        let mut room = plain.rows * row_level::most(plain.cols) * records::WORDS;
+        let space = if r.one_in(20) { plain.cols.saturating_sub(1) } else { plain.cols + r.below(3) as usize };
+        while r.one_in(3) {
+            grid_level::spoil(&mut r, &mut lists, &mut plain, &mut room);
+        }
+        grid_line(&lists, plain, room / records::WORDS, space);
+    }
+}
+
+/// A grid's line, if it fits the program's buffers.
+fn grid_line(l: &grid_level::Lists, plain: Grid<'static>, places: usize, space: usize) {
+    let g = grid_level::grid(l, plain);
+    let (Ok(rows), Ok(cols)) = (u32::try_from(g.rows), u32::try_from(g.cols)) else { return };
+    let longest = [l.scans.len(), l.mobility.len(), l.weights.len(), space, places].into_iter().max();
+    if l.data.len().max(l.raw.len()) > 256 || longest > Some(64) {
+        return;
+    }
+    let lengths = [l.data.len(), l.raw.len(), l.scans.len(), l.mobility.len(), l.weights.len(), space, places];
+    let mut w = vec![rows, cols];
+    w.extend(lengths.map(|n| n as u32));
+    w.extend(scale_words(&g.scale));
+    w.extend([g.rt_bounds.0, g.rt_bounds.1, g.frame_id_bounds.0, g.frame_id_bounds.1]);
+    w.extend([g.window_group.is_some() as u32, g.window_group.unwrap_or(0)]);
+    w.extend([bits(g.min_prom), g.min_distance_scans, g.min_width_scans, g.first]);
+    w.extend(words(&l.data).into_iter().chain(words(&l.raw)).chain(l.scans.iter().copied()));
+    w.extend(words(&l.mobility).into_iter().chain(words(&l.weights)));
+    let number = grid_level::number(&g, places * records::WORDS, space);
+    let list = if number == 0 { grid_level::rust(&g, l.smoothing) } else { Vec::new() };
+    w.extend([number, (list.len() / records::WORDS) as u32]);
+    w.extend(list);
+    line(48, &w);
+}
+
+fn scale_words(s: &TofScale) -> [u32; 4] {
+    [s.tof_min, s.tof_max, s.tof_step, s.num_bins]
+}
+
+fn build_line(tofs: &[u32], step: u32, part: usize) {
+    line(40, &[&[step, tofs.len() as u32], tofs, &tof_level::build(tofs, step, part)].concat());
+}
+
+fn scale_line(s: &TofScale, asked: Asked) {
+    line(asked.code(), &[&scale_words(s)[..], &asked.words(), &tof_level::answer(s, &asked)].concat());
 }
 
 const CASES: &[(&[u32], f32, u32)] = &[

@@ -2,6 +2,7 @@
 //  1 max  2 min  3 abs  4 clamp  5 floor  6 ceil  7 round  8 x as u32  9 n as f32  10 bits  11 lerp  12 quad_subsample
 //  16 area of two places and a row  17 its number  18 candidate of an index and a row  19 prominence  20 left crossing of the
 //  half height  21 right crossing  22 whether a record is sound
+use super::lines;
 ghost use Prim.Native.Nat.{_≤_, _<_};
 ghost use lib.ListN.{length};
 
@@ -76,15 +77,6 @@ fn apex_word(function: u32, i: usize, y: &[f32]) -> u32
     numeric::word_of(apex::inner::right_crossing(y, rise.half, i))
 }
 
-// The floats of a row's words, at the front of `row`.
-fn floats(words: &[u32], row: &mut [f32])
-    requires { ⌜ length (now words) ≤ length (now row) ⌝ }
-{
-    for i in 0..words.len() {
-        row[i] = numeric::float_of(words[i]);
-    }
-}
-
 // How many arguments a function of floats takes; 0 for any other.
 fn arguments(function: u32) -> usize
     ensures { λ r. ⌜ r ≤ 3 ⌝ }
@@ -102,9 +94,8 @@ fn area_line(words: &[u32]) -> u32
     requires { ⌜ (4 ≤ length (now words)) × (length (now words) ≤ 64) ⌝ }
 {
     let mut row = [0f32; 64];
-    let end = words.len() - 1;
     let k = words.len() - 4;
-    floats(&words[3..end], &mut row);
+    lines::floats(words, 3, &mut row);
     area_word(words[0], words[1], words[2], &row[..k])
 }
 
@@ -112,9 +103,8 @@ fn apex_line(words: &[u32]) -> u32
     requires { ⌜ (4 ≤ length (now words)) × (length (now words) ≤ 64) ⌝ }
 {
     let mut row = [0f32; 64];
-    let end = words.len() - 1;
     let k = words.len() - 3;
-    floats(&words[2..end], &mut row);
+    lines::floats(words, 2, &mut row);
     let i = super::word(words, 1);
     apex_word(words[0], i as usize, &row[..k])
 }

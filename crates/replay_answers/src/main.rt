@@ -1,7 +1,10 @@
 // Replays stored answers of the Rust. Standard input has a line for each: the number of a function, its arguments and the
 // answer, as hexadecimal words with one space between. A line that starts with '#' is passed over.
+mod grids;
 mod leaves;
+mod lines;
 mod rows;
+mod scales;
 
 ghost use Prim.Native.Nat.{_≤_, _<_};
 ghost use lib.ListN.{length};
@@ -24,6 +27,15 @@ fn agrees(words: &[u32]) -> bool {
     }
     if function == 33 {
         return rows::smoothing_line(words);
+    }
+    if function == 40 {
+        return scales::build_line(words);
+    }
+    if 41 <= function && function <= 45 {
+        return scales::scale_line(words);
+    }
+    if function == 48 {
+        return grids::grid_line(words);
     }
     leaves::agrees(words)
 }
@@ -67,7 +79,7 @@ fn feed_all(line: &mut [u32], s: State, bytes: &[u8]) -> State
 }
 
 fn main() {
-    let mut line = [0u32; 2048];
+    let mut line = [0u32; 4096];
     let mut s = State {
         reading: hexlines::start(),
         tally: Tally {

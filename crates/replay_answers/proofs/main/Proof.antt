@@ -7,7 +7,7 @@ use Rattle.replay_answers.proofs.main.Statement.{statement}
 use Rattle.replay_answers.proofs.main.Tie as tie
 
 abbrev Inv-loop : tie.InvT-loop
-Inv-loop line₀ s₀ buf₀ turns₀ t8 t9 line s buf turns = (length line ≡ 2048) × (s .reading .words ≤ length line) × (length buf ≡ length buf₀) × (length t8 ≡ 19) × (length t9 ≡ 8)
+Inv-loop line₀ s₀ buf₀ turns₀ t8 t9 line s buf turns = (length line ≡ 4096) × (s .reading .words ≤ length line) × (length buf ≡ length buf₀) × (length t8 ≡ 19) × (length t9 ≡ 8)
 
 abbrev μ-loop : tie.MeasureT-loop
 μ-loop line₀ s₀ buf₀ turns₀ t8 t9 line s buf turns = turns

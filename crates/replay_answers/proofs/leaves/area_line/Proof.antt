@@ -1,23 +1,11 @@
-use lib.ListN.{length-take}
 use native.Mathlib.Omega.{arith}
 use borrow.Author.Needs.{needs}
+use lib.ListN.{length-take}
 use Rattle.replay_answers.proofs.leaves.area_line.Statement.{statement}
 use Rattle.replay_answers.proofs.leaves.area_line.Tie as tie
 
-sub-end : tie.Need-sub-end
-sub-end c = search needs
-
 sub-k : tie.Need-sub-k
 sub-k c = search needs
-
-sub-floats : tie.Need-sub-floats
-sub-floats c = search needs
-
-part-floats-start : tie.Need-part-floats-start
-part-floats-start c = search needs
-
-part-floats-end : tie.Need-part-floats-end
-part-floats-end c = search needs
 
 slice-aggregate-floats : tie.Need-slice-aggregate-floats
 slice-aggregate-floats c = search needs
@@ -50,11 +38,7 @@ pub area-line-spec : {M : Type 1} → statement M
 area-line-spec =
     tie.close
     (tie.spec
-    sub-end
     sub-k
-    sub-floats
-    part-floats-start
-    part-floats-end
     slice-aggregate-floats
     floats-requires
     shared-slice-read-area-word

@@ -16,35 +16,14 @@ word-requires-3 c κs = search needs
 word-requires-4 : tie.Need-word-requires-4
 word-requires-4 c κs = search needs
 
-group-of-requires : tie.Need-group-of-requires
-group-of-requires c κs = search needs
+bounds-of-requires : tie.Need-bounds-of-requires
+bounds-of-requires c κs = search needs
+
+params-of-requires : tie.Need-params-of-requires
+params-of-requires c κs = search needs
 
 word-requires-5 : tie.Need-word-requires-5
 word-requires-5 c κs = search needs
-
-word-requires-6 : tie.Need-word-requires-6
-word-requires-6 c κs = search needs
-
-word-requires-7 : tie.Need-word-requires-7
-word-requires-7 c κs = search needs
-
-word-requires-8 : tie.Need-word-requires-8
-word-requires-8 c κs = search needs
-
-word-requires-9 : tie.Need-word-requires-9
-word-requires-9 c κs = search needs
-
-float-of-requires : tie.Need-float-of-requires
-float-of-requires c κs = search needs
-
-word-requires-10 : tie.Need-word-requires-10
-word-requires-10 c κs = search needs
-
-word-requires-11 : tie.Need-word-requires-11
-word-requires-11 c κs = search needs
-
-word-requires-12 : tie.Need-word-requires-12
-word-requires-12 c κs = search needs
 
 slice-relend-prefix-find-im-peaks-row : tie.Need-slice-relend-prefix-find-im-peaks-row
 slice-relend-prefix-find-im-peaks-row c = search needs
@@ -87,16 +66,9 @@ found-spec =
     word-requires-2
     word-requires-3
     word-requires-4
-    group-of-requires
+    bounds-of-requires
+    params-of-requires
     word-requires-5
-    word-requires-6
-    word-requires-7
-    word-requires-8
-    word-requires-9
-    float-of-requires
-    word-requires-10
-    word-requires-11
-    word-requires-12
     slice-relend-prefix-find-im-peaks-row
     slice-aggregate-find-im-peaks-row
     find-im-peaks-row-requires

@@ -1,11 +1,14 @@
 use native.Mathlib.Omega.{arith}
 use borrow.Author.Needs.{needs}
 use lib.ListN.{length-take}
-use Rattle.replay_answers.proofs.rows.same_list.Statement.{statement}
-use Rattle.replay_answers.proofs.rows.same_list.Tie as tie
+use Rattle.replay_answers.proofs.lines.same_list.Statement.{statement}
+use Rattle.replay_answers.proofs.lines.same_list.Tie as tie
 
 mul-k : tie.Need-mul-k
 mul-k c = search needs
+
+add-result : tie.Need-add-result
+add-result c = search needs
 
 slice-aggregate-same : tie.Need-slice-aggregate-same
 slice-aggregate-same c = simp length-take (omega arith)
@@ -39,6 +42,7 @@ same-list-spec =
     tie.close
     (tie.spec
     mul-k
+    add-result
     slice-aggregate-same
     same-requires
     mul-zeros

@@ -1,33 +1,34 @@
 use mathlib.Core.Path.{_≡_}
 use Prim.Native.Nat.{_≤_, _-_}
+use native.Mathlib.Omega.{arith}
 use borrow.Author.Needs.{needs}
-use lib.ListN.{length}
-use Rattle.replay_answers.proofs.leaves.floats.Statement.{statement}
-use Rattle.replay_answers.proofs.leaves.floats.Tie as tie
+use lib.ListN.{length, length-set}
+use Rattle.replay_answers.proofs.lines.floats.Statement.{statement}
+use Rattle.replay_answers.proofs.lines.floats.Tie as tie
 
 abbrev Inv-loop : tie.InvT-loop
-Inv-loop words row₀ i₀ i-end row i = (i ≤ length words) × (length row ≡ length row₀)
+Inv-loop words at out₀ i₀ i-end out i = (i ≤ length out) × (length out ≡ length out₀) × (i-end ≡ length out₀)
 
 abbrev μ-loop : tie.MeasureT-loop
-μ-loop words row₀ i₀ i-end row i = length words - i
+μ-loop words at out₀ i₀ i-end out i = i-end - i
 
 loop-holds : tie.Need-loop-holds Inv-loop μ-loop
 loop-holds c = search needs
 
-mul-float-of : tie.Need-mul-float-of Inv-loop μ-loop
-mul-float-of c = search needs
+add-word : tie.Need-add-word Inv-loop μ-loop
+add-word c = search needs
 
-shared-slice-read-float-of : tie.Need-shared-slice-read-float-of Inv-loop μ-loop
-shared-slice-read-float-of c = search needs
+word-requires : tie.Need-word-requires Inv-loop μ-loop
+word-requires c κs = search needs
 
 float-of-requires : tie.Need-float-of-requires Inv-loop μ-loop
 float-of-requires c κs = search needs
 
-mul-row : tie.Need-mul-row Inv-loop μ-loop
-mul-row c = search needs
+mul-out : tie.Need-mul-out Inv-loop μ-loop
+mul-out c = search needs
 
-slice-write-row : tie.Need-slice-write-row Inv-loop μ-loop
-slice-write-row c = search needs
+slice-write-out : tie.Need-slice-write-out Inv-loop μ-loop
+slice-write-out c = search needs
 
 add-i : tie.Need-add-i Inv-loop μ-loop
 add-i c = search needs
@@ -36,7 +37,7 @@ loop-less : tie.Need-loop-less Inv-loop μ-loop
 loop-less c = search needs
 
 loop-again : tie.Need-loop-again Inv-loop μ-loop
-loop-again c = search needs
+loop-again c = simp length-set (omega arith)
 
 same-length : tie.Need-same-length Inv-loop μ-loop
 same-length c = search needs
@@ -51,11 +52,11 @@ floats-spec =
     Inv-loop
     μ-loop
     loop-holds
-    mul-float-of
-    shared-slice-read-float-of
+    add-word
+    word-requires
     float-of-requires
-    mul-row
-    slice-write-row
+    mul-out
+    slice-write-out
     add-i
     loop-less
     loop-again

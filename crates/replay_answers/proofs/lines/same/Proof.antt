@@ -1,14 +1,14 @@
 use Prim.Native.Nat.{_≤_, _-_}
 use borrow.Author.Needs.{needs}
 use lib.ListN.{length}
-use Rattle.replay_answers.proofs.rows.zeros.Statement.{statement}
-use Rattle.replay_answers.proofs.rows.zeros.Tie as tie
+use Rattle.replay_answers.proofs.lines.same.Statement.{statement}
+use Rattle.replay_answers.proofs.lines.same.Tie as tie
 
 abbrev Inv-loop : tie.InvT-loop
-Inv-loop list all₀ i₀ i-end all i = i ≤ length list
+Inv-loop words at list all₀ i₀ i-end all i = i ≤ length list
 
 abbrev μ-loop : tie.MeasureT-loop
-μ-loop list all₀ i₀ i-end all i = length list - i
+μ-loop words at list all₀ i₀ i-end all i = length list - i
 
 loop-holds : tie.Need-loop-holds Inv-loop μ-loop
 loop-holds c = search needs
@@ -18,6 +18,12 @@ mul-all c = search needs
 
 shared-slice-read-all : tie.Need-shared-slice-read-all Inv-loop μ-loop
 shared-slice-read-all c = search needs
+
+add-word : tie.Need-add-word Inv-loop μ-loop
+add-word c = search needs
+
+word-requires : tie.Need-word-requires Inv-loop μ-loop
+word-requires c κs = search needs
 
 add-i : tie.Need-add-i Inv-loop μ-loop
 add-i c = search needs
@@ -31,8 +37,8 @@ loop-again c = search needs
 returns : tie.Need-returns Inv-loop μ-loop
 returns c = search needs
 
-pub zeros-spec : {M : Type 1} → statement M
-zeros-spec =
+pub same-spec : {M : Type 1} → statement M
+same-spec =
     tie.close
     (tie.spec
     Inv-loop
@@ -40,6 +46,8 @@ zeros-spec =
     loop-holds
     mul-all
     shared-slice-read-all
+    add-word
+    word-requires
     add-i
     loop-less
     loop-again

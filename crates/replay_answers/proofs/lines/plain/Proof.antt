@@ -3,8 +3,8 @@ use Prim.Native.Nat.{_≤_, _-_}
 use native.Mathlib.Omega.{arith}
 use borrow.Author.Needs.{needs}
 use lib.ListN.{length, length-set}
-use Rattle.replay_answers.proofs.rows.plain.Statement.{statement}
-use Rattle.replay_answers.proofs.rows.plain.Tie as tie
+use Rattle.replay_answers.proofs.lines.plain.Statement.{statement}
+use Rattle.replay_answers.proofs.lines.plain.Tie as tie
 
 abbrev Inv-loop : tie.InvT-loop
 Inv-loop words at out₀ i₀ i-end out i = (i ≤ length out) × (length out ≡ length out₀) × (i-end ≡ length out₀)
