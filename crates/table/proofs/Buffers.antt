@@ -1,13 +1,14 @@
 -- Laws of lists that are put at a place of a buffer. Assumes nothing.
 use mathlib.Core.Path.{_≡_, sym, _∙_, ap, subst}
-use mathlib.Core.List.{List, [], _∷_, _++_, append-assoc, append-nil}
+use mathlib.Core.List.{List, [], _∷_, _++_, append-assoc}
 use Prim.Native.Nat.{ℕ, _≤_, _<_, _+_, _-_}
 use native.Mathlib.Nat.{zero-add}
 use native.Mathlib.Numerals.{add-one}
 use native.Mathlib.Omega.{arith}
-use lib.ListN.{length, take, drop, set, length-append, length-take, length-drop, drop-of-length-le}
-use lib.Seq.{set-split, length-take-le, take-at, drop-append-add, drop-drop, take-all}
+use lib.ListN.{length, take, drop, set, length-append, length-take, length-drop}
+use lib.Seq.{set-split, length-take-le, take-at, drop-append-add, drop-drop}
 use borrow.Rule.Slice.PartMut.{putMid}
+use Rattle.record.proofs.Laws.{put-part as written}
 use Rattle.table.specs.Print.{putAt}
 
 pub put-length : (l : List ℕ) (a : ℕ) (x : List ℕ) → a + length x ≤ length l → length (putAt l a x) ≡ length l
@@ -43,11 +44,7 @@ put-front l x = rw (zero-add (length x))
 -- what is written through the part `&mut l[a..]`
 pub put-part : (l x last : List ℕ) (a k : ℕ) → k ≡ length x → last ≡ x ++ drop k (take (length l - a) (drop a l)) → putMid a (length l - a) l last ≡ putAt l a x
 unfolding putAt
-put-part l x last a k e hl =
-    let all : take (length l - a) (drop a l) ≡ drop a l = take-all (length l - a) (drop a l) (simp length-drop (omega arith)) in
-    let none : drop (length l - a) (drop a l) ≡ [] = drop-of-length-le (drop a l) {i = length l - a} (simp length-drop (omega arith)) in
-    let m : last ≡ x ++ drop (a + length x) l = hl ∙ ap (λ y. x ++ drop k y) all ∙ ap (λ y. x ++ y) (drop-drop k a l) ∙ rw e in
-    simp (none, m, append-nil)
+put-part l x last a k e hl = written l x last a k hl ∙ rw e
 
 -- x has been put at a of l, which is now out, and ends at b
 abbrev pub Put : List ℕ → ℕ → List ℕ → List ℕ → ℕ → Type 0
