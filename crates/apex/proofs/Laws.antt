@@ -1,5 +1,5 @@
 -- One step of each walk from an apex, as the code's loops take it. Assumes nothing.
-use mathlib.Core.Path.{_≡_, refl, ap, _∙_}
+use mathlib.Core.Path.{_≡_, refl, sym, ap, _∙_}
 use mathlib.Core.Bool.{Bool, true, false, cond, not, _&&_}
 use mathlib.Core.List.{List, [], _∷_}
 use Prim.Native.Nat.{ℕ, zero, suc, _≤_, _<_, _-_, _+_}
@@ -7,11 +7,12 @@ use native.Mathlib.Omega.{arith}
 use native.Mathlib.Numerals.{add-one}
 use lib.ListN.{length, drop, drop-of-length-le}
 use lib.Seq.{drop-cons}
-use lib.Ieee.{Float, nan, inf, fin, lt, isNan}
+use lib.Ieee.{Float, nan, inf, fin, lt, le, isNan}
 use Rattle.numeric.specs.Arith.{at}
 use borrow.Author.Tests.{not-true}
 use Rattle.numeric.proofs.Laws.{clash}
-use Rattle.numeric.proofs.Order.{lt-no-nan, le-not-lt, not-lt, le-trans}
+use Rattle.numeric.specs.Numeric.{maxF}
+use Rattle.numeric.proofs.Order.{lt-no-nan, le-no-nan, le-not-lt, not-lt, lt-le, le-trans, lt-le-trans}
 use Rattle.apex.specs.Apex.{noneBelow, leftOf, upToHigher, least, runAbove, leftFoot, rightFoot}
 
 -- ---- what is left of an index, and right of it
@@ -104,6 +105,24 @@ walk-ground low apex m (v ∷ vs) n h g =
     go : (b : Bool) → least m (upToHigher apex vs) ≡ m → least m (cond b [] (upToHigher apex vs)) ≡ m
     go true r = refl
     go false r = r
+
+-- ---- the higher of two lows
+low-stays : (top m : Float) (xs : List Float) → le m top ≡ true → le (least m xs) top ≡ true
+unfolding least
+low-stays top m [] h = h
+low-stays top m (v ∷ vs) h = low-stays top (cond (lt v m) v m) vs (go (lt v m) refl)
+  where
+    go : (b : Bool) → lt v m ≡ b → le (cond b v m) top ≡ true
+    go true e = lt-le v top (lt-le-trans v m top e h)
+    go false e = h
+
+max-low : (top a : Float) → le a top ≡ true → maxF top a ≡ top
+unfolding maxF
+max-low top a h = rw (le-no-nan a top h .1, le-not-lt top a h)
+
+-- a walk that has come down to one low finds nothing that counts beside it
+pub walk-enough : (top apex m : Float) (xs : List Float) → le m top ≡ true → maxF top (least m (upToHigher apex xs)) ≡ maxF top m
+walk-enough top apex m xs h = max-low top (least m (upToHigher apex xs)) (low-stays top m (upToHigher apex xs) h) ∙ sym (max-low top m h)
 
 -- ---- the feet
 pub run-on : (h v : Float) (xs vs : List Float) → xs ≡ v ∷ vs → lt h v ≡ true → runAbove h xs ≡ suc (runAbove h vs)

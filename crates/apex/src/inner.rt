@@ -3,12 +3,19 @@ ghost use mathlib.Core.Path.{_≡_};
 ghost use Prim.Native.Nat.{_≤_, _<_, _+_};
 ghost use lib.ListN.{length};
 ghost use Rattle.numeric.specs.Arith.{at};
+ghost use Rattle.numeric.specs.Numeric.{maxF};
 ghost use Rattle.apex.specs.Apex.{isCandidate, leftOf, rightOf, upToHigher, least, baseline, riseOf, noneBelow, Ground, leftFoot, rightFoot, share, leftCrossing, rightCrossing};
 
 // How far an apex rises above its baseline, and the height half of that above the baseline.
 pub struct Rise {
     pub prominence: f32,
     pub half: f32,
+}
+
+// A low beside an apex, and how many samples were walked over to find it.
+pub struct Low {
+    pub height: f32,
+    pub steps: usize,
 }
 
 pub fn is_candidate(y: &[f32], i: usize) -> bool
@@ -41,9 +48,10 @@ pub fn ground_of(y: &[f32]) -> f32
 
 // The least reading from i on to the left, as far as the first one above it. No reading lies below the ground, so that the
 // walk may end there.
-fn left_least(y: &[f32], ground: f32, i: usize) -> f32
+fn left_least(y: &[f32], ground: f32, i: usize) -> Low
     requires { ⌜ (i < length (now y)) × Ground ground (now y) ⌝ }
-    ensures { λ r. ⌜ r ≡ least (at (now (y .entry)) i) (upToHigher (at (now (y .entry)) i) (leftOf (now (y .entry)) i)) ⌝ }
+    ensures steps { λ r. ⌜ r .steps ≤ i ⌝ }
+    ensures low { λ r. ⌜ r .height ≡ least (at (now (y .entry)) i) (upToHigher (at (now (y .entry)) i) (leftOf (now (y .entry)) i)) ⌝ }
 {
     let apex = y[i];
     let mut m = apex;
@@ -58,18 +66,23 @@ fn left_least(y: &[f32], ground: f32, i: usize) -> f32
             break;
         }
     }
-    m
+    Low {
+        height: m,
+        steps: i - l,
+    }
 }
 
-// The same to the right.
-fn right_least(y: &[f32], ground: f32, i: usize) -> f32
-    requires { ⌜ (i < length (now y)) × Ground ground (now y) ⌝ }
-    ensures { λ r. ⌜ r ≡ least (at (now (y .entry)) i) (upToHigher (at (now (y .entry)) i) (rightOf (now (y .entry)) i)) ⌝ }
+// The same to the right, as far as it can count: what is not above the least of the left does not, so that the walk may end
+// there.
+fn right_least(y: &[f32], left: f32, i: usize) -> Low
+    requires { ⌜ i < length (now y) ⌝ }
+    ensures steps { λ r. ⌜ i + r .steps ≤ length (now (y .entry)) ⌝ }
+    ensures low { λ r. ⌜ maxF left (r .height) ≡ maxF left (least (at (now (y .entry)) i) (upToHigher (at (now (y .entry)) i) (rightOf (now (y .entry)) i))) ⌝ }
 {
     let apex = y[i];
     let mut m = apex;
     let mut r = i + 1;
-    while r < y.len() && ground < m {
+    while r < y.len() && !(m <= left) {
         let v = y[r];
         r += 1;
         if v < m {
@@ -79,19 +92,43 @@ fn right_least(y: &[f32], ground: f32, i: usize) -> f32
             break;
         }
     }
-    m
+    Low {
+        height: m,
+        steps: r - i,
+    }
+}
+
+// The baseline of an apex, by a walk to both sides.
+pub fn walk_of(y: &[f32], ground: f32, i: usize) -> Low
+    requires { ⌜ (i < length (now y)) × Ground ground (now y) ⌝ }
+    ensures steps { λ r. ⌜ r .steps ≤ length (now (y .entry)) ⌝ }
+    ensures base { λ r. ⌜ r .height ≡ baseline (now (y .entry)) i ⌝ }
+{
+    let left = left_least(y, ground, i);
+    let right = right_least(y, left.height, i);
+    Low {
+        height: numeric::max(left.height, right.height),
+        steps: left.steps + right.steps,
+    }
+}
+
+// How far an apex rises above its baseline.
+pub fn rise_from(y: &[f32], base: f32, i: usize) -> Rise
+    requires { ⌜ (i < length (now y)) × (base ≡ baseline (now y) i) ⌝ }
+    ensures { λ r. ⌜ r ≡ riseOf (now (y .entry)) i ⌝ }
+{
+    let prominence = y[i] - base;
+    Rise {
+        prominence,
+        half: base + 0.5 * prominence,
+    }
 }
 
 pub fn rise_of(y: &[f32], ground: f32, i: usize) -> Rise
     requires { ⌜ (i < length (now y)) × Ground ground (now y) ⌝ }
     ensures { λ r. ⌜ r ≡ riseOf (now (y .entry)) i ⌝ }
 {
-    let base = numeric::max(left_least(y, ground, i), right_least(y, ground, i));
-    let prominence = y[i] - base;
-    Rise {
-        prominence,
-        half: base + 0.5 * prominence,
-    }
+    rise_from(y, walk_of(y, ground, i).height, i)
 }
 
 fn left_foot(y: &[f32], h: f32, i: usize) -> usize

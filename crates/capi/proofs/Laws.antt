@@ -29,12 +29,13 @@ use Rattle.smoothing.specs.Smoothing.{tabulate, smoothedAt, smoothed, normalise
 use Rattle.smoothing.proofs.Laws.{smoothed-length}
 use Rattle.row.specs.Row.{peakOf, kept, rowWords}
 use Rattle.row.specs.Steps as row
+use Rattle.row.specs.declared.inner.Search.{Search}
 use Rattle.row.specs.RowLaws.{kept-count, row-words-length}
 use Rattle.tof.specs.Tof.{rowPlace, soundStep, soundEnds, agreeing}
 use Rattle.grid.specs.Grid.{Grid, rowOf, searched, listedIn, countTo, wordsTo as gridWords}
 use Rattle.grid.specs.GridNumber.{gridNumber}
 use Rattle.capi.specs.Entry.{entryNumber, Answered}
-use Rattle.capi.specs.Steps.{withWord, withRecord, Handed, Listed, RowReady, RowDone, Ready, Done, numbered, wordsIn}
+use Rattle.capi.specs.Steps.{withWord, withRecord, Front, Handed, Listed, RowReady, RowDone, Ready, Done, numbered, wordsIn}
 
 -- ---- the words of bytes
 pub words-length : (b : List ℕ) (n : ℕ) → length (wordsTo b n) ≡ n
@@ -166,18 +167,14 @@ record-put out ws last k p e h =
 
 -- ---- the records of the apexes that are answered
 module _ (place : RowPlace) (bounds : FrameBounds) (mobility : List Float) (axis : List ℕ) (y z : List Float) (first : ℕ) where
-  -- the records of the apexes es stand at the front of the buffer d, and there are n of them
-  pub record Front (es d out : List ℕ) (n : ℕ) : Type 0 where
-    pub count : n ≡ length es
-    pub front : out ≡ bytesOf (rowWords place bounds mobility axis y z first es) ++ drop (n * 108) d
-
-  pub none-front : (d : List ℕ) → Front [] d d 0
+  -- a search starts with nothing listed
+  pub begin-front : (p : ImDetectParams) (s : Search) (d : List ℕ) → row.Starts s → row.Begun (Front place bounds mobility axis y z first d d 0) p y s
   unfolding rowWords bytesOf
-  none-front d = record { count = refl; front = refl }
+  begin-front p s d starts = record { answers = []; stands = starts p y; written = record { count = refl; front = refl } }
 
   -- one more record behind them
-  pub one-front : (es d out next : List ℕ) (n i : ℕ) (peak : ImPeak1D) → Front es d out n → peak ≡ peakOf place bounds mobility axis y z i (first + n)
-      → next ≡ withRecord out n peak → Front (i ∷ es) d next (n + 1)
+  pub one-front : (es d out next : List ℕ) (n i : ℕ) (peak : ImPeak1D) → Front place bounds mobility axis y z first d out n es → peak ≡ peakOf place bounds mobility axis y z i (first + n)
+      → next ≡ withRecord out n peak → Front place bounds mobility axis y z first d next (n + 1) (i ∷ es)
   unfolding rowWords withRecord
   one-front es d out next n i peak h e o =
       let W = rowWords place bounds mobility axis y z first es in

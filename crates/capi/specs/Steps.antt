@@ -28,6 +28,11 @@ withRecord b k p = take (k * 108) b ++ (bytesOf (peakWords p) ++ drop (k * 108 +
 
 -- ---- one row
 
+-- the records of the apexes es stand at the front of the buffer d, and there are n of them
+pub record Front (place : RowPlace) (bounds : FrameBounds) (mobility : List Float) (axis : List ℕ) (y z : List Float) (first : ℕ) (d out : List ℕ) (n : ℕ) (es : List ℕ) : Type 0 where
+  pub count : n ≡ length es
+  pub front : out ≡ bytesOf (rowWords place bounds mobility axis y z first es) ++ drop (n * 108) d
+
 -- A row z that is handed in: what the row finder asks, a scratch as long as the row, and weights u that were divided.
 pub record Handed (z : List Float) (axis : List ℕ) (weights u : List Float) (first room scratch : ℕ) : Type 0 where
   pub row : row.Ready z z axis first room

@@ -3,6 +3,8 @@ use params::FrameBounds;
 use params::ImDetectParams;
 use params::RowPlace;
 use record::ImPeak1D;
+use row::inner::Listing;
+use row::inner::Search;
 use row::inner::Step;
 use tof::TofScale;
 ghost use mathlib.Core.Path.{_≡_};
@@ -12,13 +14,16 @@ ghost use Prim.Native.Nat.{_≤_, _<_, _+_, _*_, _/_};
 ghost use lib.ListN.{length, take, drop};
 ghost use Rattle.numeric.specs.Arith.{𝟎};
 ghost use Rattle.numeric.specs.Numeric.{allInRange};
+ghost use Rattle.apex.specs.Apex.{Ground};
+ghost use Rattle.baselines.specs.Baselines.{Baselines};
 ghost use Rattle.params.specs.Params.{allUpTo};
 ghost use Rattle.smoothing.specs.Smoothing.{normalised};
 ghost use Rattle.row.specs.Row.{highest, reaches, kept, rowWords};
 ghost use Rattle.row.specs.Steps as row;
+ghost use Rattle.row.specs.declared.inner.Listing.the-variants.{All};
 ghost use Rattle.capi.specs.Bytes.{wordAt, wordsOf, floatsOf, bytesOf};
 ghost use Rattle.capi.specs.Entry.{gridOf, entryGrid};
-ghost use Rattle.capi.specs.Steps.{withWord, withRecord, Handed, Listed, RowReady, RowDone, Ready, Done};
+ghost use Rattle.capi.specs.Steps.{withWord, withRecord, Front, Handed, Listed, RowReady, RowDone, Ready, Done};
 
 // ---- words in bytes
 
@@ -104,6 +109,99 @@ pub fn all_words_up_to(b: &[u8], limit: u32) -> bool
 
 // ---- the records of peaks, as bytes
 
+// Writes the records of the listed peaks that a search still has to answer behind the n that stand at the front of `out`,
+// and answers how many there are then.
+fn list_from(
+    y: &[f32],
+    z: &[f32],
+    ground: f32,
+    bases: &[f32],
+    place: RowPlace,
+    bounds: FrameBounds,
+    mobility: &[f32],
+    p: ImDetectParams,
+    axis: &[u32],
+    first: u32,
+    from: Search,
+    listed: usize,
+    out: &mut [u8],
+) -> Listing
+    requires { ⌜ row.Ready (now y) (now z) (now axis) first (length (now out) / 4) × Ground ground (now y) × Baselines (now y) (now bases) × row.Part (Front place bounds (now mobility) (now axis) (now y) (now z) first) p (now y) from (now out) listed ⌝ }
+    ensures { λ r. ⌜ row.FilledUp (Front place bounds (now (mobility .entry)) (now (axis .entry)) (now (y .entry)) (now (z .entry)) first) p (now (y .entry)) (length (now (bases .entry))) from (now (out .entry)) listed (now (out .exit)) r ⌝ }
+{
+    let mut n = listed;
+    let mut s = from;
+    loop {
+        let step = row::inner::next_peak(y, ground, bases, p, s);
+        match step {
+            Step::Peak(a, t) => {
+                let peak = row::inner::peak_of(
+                    y,
+                    z,
+                    place,
+                    bounds,
+                    mobility,
+                    axis,
+                    a,
+                    first + n as u32,
+                );
+                put_record(out, n, peak);
+                n += 1;
+                s = t;
+            }
+            Step::Deep(t) => {
+                return Listing::Deep(n, t);
+            }
+            Step::End => {
+                return Listing::All(n);
+            }
+        }
+    }
+}
+
+// The same with the baselines of the whole row filled first.
+fn list_deep(
+    y: &[f32],
+    z: &[f32],
+    ground: f32,
+    place: RowPlace,
+    bounds: FrameBounds,
+    mobility: &[f32],
+    p: ImDetectParams,
+    axis: &[u32],
+    first: u32,
+    from: Search,
+    listed: usize,
+    out: &mut [u8],
+) -> usize
+    requires { ⌜ row.Ready (now y) (now z) (now axis) first (length (now out) / 4) × Ground ground (now y) × (length (now y) ≤ 16384) × row.Part (Front place bounds (now mobility) (now axis) (now y) (now z) first) p (now y) from (now out) listed ⌝ }
+    ensures { λ r. ⌜ row.FilledUp (Front place bounds (now (mobility .entry)) (now (axis .entry)) (now (y .entry)) (now (z .entry)) first) p (now (y .entry)) (length (now (y .entry))) from (now (out .entry)) listed (now (out .exit)) (All r) ⌝ }
+{
+    let mut bases = [0f32; 16384];
+    let mut links = [0u32; 16384];
+    let mut lows = [0f32; 16384];
+    baselines::inner::fill_baselines(y, &mut bases, &mut links, &mut lows);
+    let l = list_from(
+        y,
+        z,
+        ground,
+        &bases,
+        place,
+        bounds,
+        mobility,
+        p,
+        axis,
+        first,
+        from,
+        listed,
+        out,
+    );
+    match l {
+        Listing::All(n) => n,
+        Listing::Deep(n, _) => n,
+    }
+}
+
 // Writes the records of the listed peaks of a row that reaches the floor to the front of `out` and answers how many there are.
 fn list_peaks(
     y: &[f32],
@@ -121,30 +219,38 @@ fn list_peaks(
     ensures front { λ r. ⌜ now (out .exit) ≡ bytesOf (rowWords place bounds (now (mobility .entry)) (now (axis .entry)) (now (y .entry)) (now (z .entry)) first (kept p (now (y .entry)) (now (z .entry)))) ++ drop (r * 108) (now (out .entry)) ⌝ }
 {
     let ground = apex::inner::ground_of(y);
-    let mut n = 0usize;
-    let mut s = row::inner::search_start();
-    loop {
-        let step = row::inner::next_peak(y, ground, p, s);
-        match step {
-            Step::Peak(a, t) => {
-                let peak = row::inner::peak_of(
-                    y,
-                    z,
-                    place,
-                    bounds,
-                    mobility,
-                    axis,
-                    a,
-                    first + n as u32,
-                );
-                put_record(out, n, peak);
-                n += 1;
-                s = t;
-            }
-            Step::End => {
-                return n;
-            }
-        }
+    let s = row::inner::search_start(y.len());
+    let l = list_from(
+        y,
+        z,
+        ground,
+        &y[..0],
+        place,
+        bounds,
+        mobility,
+        p,
+        axis,
+        first,
+        s,
+        0,
+        out,
+    );
+    match l {
+        Listing::All(n) => n,
+        Listing::Deep(n, t) => list_deep(
+            y,
+            z,
+            ground,
+            place,
+            bounds,
+            mobility,
+            p,
+            axis,
+            first,
+            t,
+            n,
+            out,
+        ),
     }
 }
 

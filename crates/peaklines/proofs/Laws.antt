@@ -7,10 +7,13 @@ use borrow.Rule.Slice.PartMut.{putMid}
 use lib.ListN.{length, take, drop, length-append, length-drop, drop-of-length-le}
 use lib.Seq.{take-at, take-all, drop-drop, drop-append-add}
 use lib.Ieee.{Float}
+use Rattle.params.specs.declared.ImDetectParams.{ImDetectParams}
 use Rattle.row.specs.Row.{peakOf}
+use Rattle.row.specs.Steps.{Starts, Begun}
+use Rattle.row.specs.declared.inner.Search.{Search}
 use Rattle.table.specs.Print.{peakLine}
 use Rattle.table.specs.Facts.{line-most}
-use Rattle.peaklines.specs.RowLines.{placeOf, noFrames, linesOf}
+use Rattle.peaklines.specs.RowLines.{placeOf, noFrames, linesOf, Printed}
 
 -- r bytes R, written through the part `&mut out[a..]`
 pub put-part : (out R last : List ℕ) (a r : ℕ) → last ≡ R ++ drop r (take (length out - a) (drop a out))
@@ -31,17 +34,13 @@ lines-most r axis y (i ∷ es) =
     rw length-append (omega arith)
 
 module _ (r : ℕ) (axis : List ℕ) (y : List Float) where
-  -- the lines of the apexes es stand at the front of the buffer d, and are n bytes
-  pub record Printed (es d out : List ℕ) (n : ℕ) : Type 0 where
-    pub count : n ≡ length (linesOf r axis y es)
-    pub front : out ≡ linesOf r axis y es ++ drop n d
-
-  pub none-printed : (d : List ℕ) → Printed [] d d 0
+  -- a search starts with nothing printed
+  pub begin-printed : (p : ImDetectParams) (s : Search) (d : List ℕ) → Starts s → Begun (Printed r axis y d d 0) p y s
   unfolding linesOf
-  none-printed d = record { count = refl; front = refl }
+  begin-printed p s d starts = record { answers = []; stands = starts p y; written = record { count = refl; front = refl } }
 
-  pub one-printed : (es d out next : List ℕ) (n m i : ℕ) → Printed es d out n → m ≡ n + length (peakLine (peakOf (placeOf r) noFrames [] axis y y i 0))
-      → next ≡ take n out ++ (peakLine (peakOf (placeOf r) noFrames [] axis y y i 0) ++ drop m out) → Printed (i ∷ es) d next m
+  pub one-printed : (es d out next : List ℕ) (n m i : ℕ) → Printed r axis y d out n es → m ≡ n + length (peakLine (peakOf (placeOf r) noFrames [] axis y y i 0))
+      → next ≡ take n out ++ (peakLine (peakOf (placeOf r) noFrames [] axis y y i 0) ++ drop m out) → Printed r axis y d next m (i ∷ es)
   unfolding linesOf
   one-printed es d out next n m i h e o =
       let P = linesOf r axis y es in

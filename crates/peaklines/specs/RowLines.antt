@@ -1,8 +1,11 @@
 -- The lines that are printed for a row: those of its listed peaks, in order. The row is not smoothed, scans count from 0, and
 -- no field of the table speaks of frames, groups, mobility or identities.
+use mathlib.Core.Path.{_≡_}
 use mathlib.Core.List.{List, [], _∷_, _++_}
-use Prim.Native.Nat.{ℕ}
+use Prim.Native.Nat.{ℕ, _+_, _*_, _≤_}
+use lib.ListN.{length, drop}
 use lib.Ieee.{Float}
+use Rattle.params.specs.Params.{mostPeaks}
 use Rattle.params.specs.declared.ImDetectParams.{ImDetectParams}
 use Rattle.params.specs.declared.RowPlace.{RowPlace}
 use Rattle.params.specs.declared.FrameBounds.{FrameBounds}
@@ -25,3 +28,12 @@ linesOf r axis y (i ∷ older) = linesOf r axis y older ++ peakLine (peakOf (pla
 -- the lines of the listed peaks
 abbrev pub rowLines : ImDetectParams → ℕ → List ℕ → List Float → List ℕ
 rowLines p r axis y = linesOf r axis y (kept p y y)
+
+-- a row with a scan for each sample, and room for its lines
+abbrev pub Ready : List Float → List ℕ → ℕ → Type 0
+Ready y axis room = (length axis ≡ length y) × (length y ≤ 4096) × (mostPeaks (length y) * 92 + 96 ≤ room)
+
+-- the lines of the apexes es stand at the front of the buffer d, and are n bytes
+pub record Printed (r : ℕ) (axis : List ℕ) (y : List Float) (d out : List ℕ) (n : ℕ) (es : List ℕ) : Type 0 where
+  pub count : n ≡ length (linesOf r axis y es)
+  pub front : out ≡ linesOf r axis y es ++ drop n d

@@ -85,7 +85,10 @@ withPeak l k p = take (k * size) l ++ (wordsOf p ++ drop (k * size + size) l)
 
 -- ---- number 9: fields in range, and no low bound above its high one
 
--- which of the fields that may be missing are there; a window group may be any word, so that nothing is asked of it
+-- which of the three fields that may be missing are there
+abbrev pub hasGroup : ImPeak1D → Bool
+hasGroup p = eqb (p .flags % 2) 1
+
 abbrev pub hasMobility : ImPeak1D → Bool
 hasMobility p = eqb (p .flags / 2 % 2) 1
 

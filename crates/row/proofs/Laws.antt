@@ -32,13 +32,18 @@ use Rattle.row.specs.Row.{highest, mobilityAt, mobilityFlag, groupFlag, 
 use Rattle.row.specs.RowNumber.{sameLengths, soundReadings, soundValues, soundAxis, rowNumber}
 use Rattle.row.specs.Suppression.{keep, keepAll}
 use Rattle.row.specs.RowLaws.{keptTo, kept-step, kept-to-count, row-words-length}
-use Rattle.row.specs.Steps.{Ready, Inside, measuredOf, judged, foundAt, turnOf, Placed, Stands, Starts, toGo, Answered, After, Goes}
+use Rattle.row.specs.Steps.{Ready, Inside, measuredOf, judged, foundAt, Lacking, Looks, turnOf, Placed, Stands, Starts, toGo, Answered, Stopped, After, Goes, Listed, Begun, Lists}
 use Rattle.row.specs.declared.inner.Measured.{Measured}
+use Rattle.row.specs.declared.inner.Found.{Found}
 use Rattle.row.specs.declared.inner.Found.the-variants.{Apex, Nothing}
+use Rattle.row.specs.declared.inner.Look.{Look}
+use Rattle.row.specs.declared.inner.Look.the-variants as look
 use Rattle.row.specs.declared.inner.Turn.the-variants.{Hold, Pass, Settle}
 use Rattle.row.specs.declared.inner.Search.{Search}
 use Rattle.row.specs.declared.inner.Step.{Step}
-use Rattle.row.specs.declared.inner.Step.the-variants.{Peak, End}
+use Rattle.row.specs.declared.inner.Step.the-variants.{Peak, Deep, End}
+use Rattle.row.specs.declared.inner.Listing.{Listing}
+use Rattle.row.specs.declared.inner.Listing.the-variants as listing
 
 -- the default does not matter inside of a list
 default-out : {A : Type 0} (l : List A) (i : ℕ) (d e : A) → i < length l → getD l i d ≡ getD l i e
@@ -245,6 +250,14 @@ found-nothing p y (suc k) h e = rw sub-one (go (isCandidate y (suc k)) (qualifie
     go true false g s = s
     go false c g s = s
 
+-- what a look at the sample i says
+module _ (p : ImDetectParams) (y : List Float) (b i : ℕ) (r : Look) (looks : Looks p y b i r) where
+  pub look-found : (f : Found) (budget : ℕ) → r ≡ look.At f budget → f ≡ foundAt p y i
+  look-found f budget e = subst (Looks p y b i) e looks
+
+  pub look-lacks : r ≡ look.Deep → Lacking b y
+  look-lacks e = subst (Looks p y b i) e looks
+
 -- what becomes of an apex that qualifies, where `last` is held over es, or none is held and none was kept
 module _ (d : ℕ) (y : List Float) (last i : ℕ) (ks es : List ℕ) where
   hold-keeps : (h : Bool) → turnOf y d h last i ≡ Hold → (h ≡ true → ks ≡ last ∷ es) → (h ≡ false → (ks ≡ []) × (es ≡ [])) → keep d y ks i ≡ i ∷ es
@@ -278,13 +291,13 @@ module _ (d : ℕ) (y : List Float) (last i : ℕ) (ks es : List ℕ) where
       go false b u = refl
 
 -- the search that looks at i next
-abbrev pub searchAt : ℕ → Bool → Measured → Search
-searchAt i held last = record { next = i; held = held; last = last }
+abbrev pub searchAt : ℕ → Bool → Measured → ℕ → Search
+searchAt i held last b = record { next = i; held = held; last = last; budget = b }
 
 -- nothing is kept of the indices before the first
-pub starts : (a : Measured) → a .index ≡ 0 → Starts (searchAt 1 false a)
+pub starts : (a : Measured) (b : ℕ) → a .index ≡ 0 → Starts (searchAt 1 false a b)
 unfolding keepAll chosenOf candidatesTo
-starts a e p y =
+starts a b e p y =
     record {
       placed = record { low = omega arith; high = omega arith; behind = omega arith };
       one = λ h. clash false h refl;
@@ -292,7 +305,7 @@ starts a e p y =
     }
 
 -- the search at i, past es
-module _ (p : ImDetectParams) (y : List Float) (i : ℕ) (held : Bool) (last : Measured) (es : List ℕ) (st : Stands p y (searchAt i held last) es) where
+module _ (p : ImDetectParams) (y : List Float) (i : ℕ) (held : Bool) (last : Measured) (b : ℕ) (es : List ℕ) (st : Stands p y (searchAt i held last b) es) (c : ℕ) where
   -- a held apex lies between the row's first sample and its last, and is the next to be answered
   held-answers : (t : Search) → held ≡ true → Stands p y t (last .index ∷ es) → (s : Search) → toGo y t < toGo y s → Answered p y s es last t
   held-answers t h n s l =
@@ -300,12 +313,12 @@ module _ (p : ImDetectParams) (y : List Float) (i : ℕ) (held : Bool) (last : M
       record { is = o .is; low = o .inner; high = omega (arith, o .inner, st .placed); stands = n; less = l }
 
   -- where the row ends, it is answered, ..
-  end-held : held ≡ true → length y ≤ i + 1 → (s : Search) → toGo y (searchAt i held last) ≤ toGo y s → Answered p y s es last (searchAt i false last)
+  end-held : held ≡ true → length y ≤ i + 1 → (s : Search) → toGo y (searchAt i held last b) ≤ toGo y s → Answered p y s es last (searchAt i false last c)
   end-held h e s l =
       let o = st .one h in
-      let q : toGo y (searchAt i held last) ≡ 2 * (length y - i) + 1 = rw h in
+      let q : toGo y (searchAt i held last b) ≡ 2 * (length y - i) + 1 = rw h in
       held-answers
-      (searchAt i false last)
+      (searchAt i false last c)
       h
       (record { placed = record { low = st .placed .low; high = st .placed .high; behind = st .placed .behind }; one = λ f. clash false f refl; none = λ f. record { all = o .newest; ends = inr (omega (arith, st .placed)) } })
       s
@@ -320,7 +333,7 @@ module _ (p : ImDetectParams) (y : List Float) (i : ℕ) (held : Bool) (last : M
     back = omega arith
 
     -- what is kept stays as it is
-    goes-on : keptTo p y i ≡ keptTo p y (i - 1) → Stands p y (searchAt (i + 1) held last) es
+    goes-on : keptTo p y i ≡ keptTo p y (i - 1) → Stands p y (searchAt (i + 1) held last c) es
     goes-on e =
         record {
           placed = record { low = omega arith; high = omega arith; behind = omega (arith, st .placed) };
@@ -329,7 +342,7 @@ module _ (p : ImDetectParams) (y : List Float) (i : ℕ) (held : Bool) (last : M
               let o = st .none h in record { all = rw back (e ∙ o .all); ends = ⊎-elim inl (λ w. absurd (omega (arith, st .placed))) (o .ends) };
         }
 
-    turn-nothing : foundAt p y i ≡ Nothing → Stands p y (searchAt (i + 1) held last) es
+    turn-nothing : foundAt p y i ≡ Nothing → Stands p y (searchAt (i + 1) held last c) es
     turn-nothing f = goes-on (found-nothing p y i (st .placed .low) f)
 
     module _ (a : Measured) (f : foundAt p y i ≡ Apex a) where
@@ -352,7 +365,7 @@ module _ (p : ImDetectParams) (y : List Float) (i : ℕ) (held : Bool) (last : M
           (o .all ∙ e, e)
 
       -- the apex at i is held over fs
-      takes : (fs : List ℕ) → keptTo p y i ≡ i ∷ fs → Stands p y (searchAt (i + 1) true a) fs
+      takes : (fs : List ℕ) → keptTo p y i ≡ i ∷ fs → Stands p y (searchAt (i + 1) true a c) fs
       takes fs e =
           record {
             placed = record { low = omega arith; high = omega arith; behind = omega (arith, found-index) };
@@ -360,17 +373,17 @@ module _ (p : ImDetectParams) (y : List Float) (i : ℕ) (held : Bool) (last : M
             none = λ h. clash true refl h;
           }
 
-      turn-hold : turnOf y (p .«min_distance_scans») held (last .index) i ≡ Hold → Stands p y (searchAt (i + 1) true a) es
+      turn-hold : turnOf y (p .«min_distance_scans») held (last .index) i ≡ Hold → Stands p y (searchAt (i + 1) true a c) es
       turn-hold t = takes es (step ∙ hold-keeps (p .«min_distance_scans») y (last .index) i (keptTo p y (i - 1)) es held t held-newest none-kept)
 
-      turn-pass : turnOf y (p .«min_distance_scans») held (last .index) i ≡ Pass → Stands p y (searchAt (i + 1) held last) es
+      turn-pass : turnOf y (p .«min_distance_scans») held (last .index) i ≡ Pass → Stands p y (searchAt (i + 1) held last c) es
       turn-pass t = goes-on (step ∙ pass-keeps (p .«min_distance_scans») y (last .index) i (keptTo p y (i - 1)) es held t held-newest)
 
-      turn-settle : turnOf y (p .«min_distance_scans») held (last .index) i ≡ Settle → (s : Search) → toGo y (searchAt i held last) ≤ toGo y s → Answered p y s es last (searchAt (i + 1) true a)
+      turn-settle : turnOf y (p .«min_distance_scans») held (last .index) i ≡ Settle → (s : Search) → toGo y (searchAt i held last b) ≤ toGo y s → Answered p y s es last (searchAt (i + 1) true a c)
       turn-settle t s l =
           let w = settle-keeps (p .«min_distance_scans») y (last .index) i (keptTo p y (i - 1)) es held t held-newest in
-          let q : toGo y (searchAt i held last) ≡ 2 * (length y - i) + 1 = rw (w .0) in
-          held-answers (searchAt (i + 1) true a) (w .0) (takes (last .index ∷ es) (step ∙ w .1)) s (omega arith)
+          let q : toGo y (searchAt i held last b) ≡ 2 * (length y - i) + 1 = rw (w .0) in
+          held-answers (searchAt (i + 1) true a c) (w .0) (takes (last .index ∷ es) (step ∙ w .1)) s (omega arith)
 
 -- the search t is reached from s without an answer
 pub record Reached (p : ImDetectParams) (y : List Float) (s t : Search) : Type 0 where
@@ -378,42 +391,45 @@ pub record Reached (p : ImDetectParams) (y : List Float) (s t : Search) : Type 0
   pub less : toGo y t ≤ toGo y s
   pub stands : (es : List ℕ) → Stands p y s es → Stands p y t es
 
-module _ (p : ImDetectParams) (y : List Float) (s : Search) (i : ℕ) (held : Bool) (last : Measured) (r : Reached p y s (searchAt i held last)) where
-  pub reached-end : held ≡ true → length y ≤ i + 1 → (es : List ℕ) → Stands p y s es → Answered p y s es last (searchAt i false last)
-  reached-end h e es st = end-held p y i held last es (r .stands es st) h e s (r .less)
+module _ (p : ImDetectParams) (y : List Float) (s : Search) (i : ℕ) (held : Bool) (last : Measured) (b : ℕ) (r : Reached p y s (searchAt i held last b)) (c : ℕ) where
+  pub reached-end : held ≡ true → length y ≤ i + 1 → (es : List ℕ) → Stands p y s es → Answered p y s es last (searchAt i false last c)
+  reached-end h e es st = end-held p y i held last b es (r .stands es st) c h e s (r .less)
+
+  pub reached-stop : (n : ℕ) → Lacking n y → (es : List ℕ) → Stands p y s es → Stopped p y n s es (searchAt i held last b)
+  reached-stop n l es st = record { stands = r .stands es st; less = r .less; lacks = l }
 
   pub reached-none : held ≡ false → length y ≤ i + 1 → (es : List ℕ) → Stands p y s es → keptTo p y (length y - 2) ≡ es
-  reached-none h e es st = end-none p y i held last es (r .stands es st) h e
+  reached-none h e es st = end-none p y i held last b es (r .stands es st) c h e
 
   module _ (high : i + 1 < length y) where
-    pub reached-nothing : foundAt p y i ≡ Nothing → Reached p y s (searchAt (i + 1) held last)
+    pub reached-nothing : foundAt p y i ≡ Nothing → Reached p y s (searchAt (i + 1) held last c)
     reached-nothing f =
         record {
           placed = record { low = omega arith; high = omega arith; behind = omega (arith, r .placed) };
           less = omega (arith, r .less);
-          stands = λ es st. turn-nothing p y i held last es (r .stands es st) high f;
+          stands = λ es st. turn-nothing p y i held last b es (r .stands es st) c high f;
         }
 
     module _ (a : Measured) (f : foundAt p y i ≡ Apex a) where
-      pub reached-hold : turnOf y (p .«min_distance_scans») held (last .index) i ≡ Hold → Reached p y s (searchAt (i + 1) true a)
+      pub reached-hold : turnOf y (p .«min_distance_scans») held (last .index) i ≡ Hold → Reached p y s (searchAt (i + 1) true a c)
       reached-hold t =
           let x : a .index ≡ i = ap (λ (m : Measured). m .index) (found-apex p y i a (r .placed .low) f .0) in
           record {
             placed = record { low = omega arith; high = omega arith; behind = omega arith };
             less = omega (arith, r .less);
-            stands = λ es st. turn-hold p y i held last es (r .stands es st) high a f t;
+            stands = λ es st. turn-hold p y i held last b es (r .stands es st) c high a f t;
           }
 
-      pub reached-pass : turnOf y (p .«min_distance_scans») held (last .index) i ≡ Pass → Reached p y s (searchAt (i + 1) held last)
+      pub reached-pass : turnOf y (p .«min_distance_scans») held (last .index) i ≡ Pass → Reached p y s (searchAt (i + 1) held last c)
       reached-pass t =
           record {
             placed = record { low = omega arith; high = omega arith; behind = omega (arith, r .placed) };
             less = omega (arith, r .less);
-            stands = λ es st. turn-pass p y i held last es (r .stands es st) high a f t;
+            stands = λ es st. turn-pass p y i held last b es (r .stands es st) c high a f t;
           }
 
-      pub reached-settle : turnOf y (p .«min_distance_scans») held (last .index) i ≡ Settle → (es : List ℕ) → Stands p y s es → Answered p y s es last (searchAt (i + 1) true a)
-      reached-settle t es st = turn-settle p y i held last es (r .stands es st) high a f t s (r .less)
+      pub reached-settle : turnOf y (p .«min_distance_scans») held (last .index) i ≡ Settle → (es : List ℕ) → Stands p y s es → Answered p y s es last (searchAt (i + 1) true a c)
+      reached-settle t es st = turn-settle p y i held last b es (r .stands es st) c high a f t s (r .less)
 
 -- ---- the records of the apexes that are answered
 
@@ -426,13 +442,16 @@ stands-count p y s es st = go (s .held) refl
     go false h = omega (arith, kept-to-count p y (s .next - 1), ap length (st .none h .all), st .placed)
 
 -- what an answer after es says
-module _ (p : ImDetectParams) (y : List Float) (s : Search) (r : Step) (goes : Goes p y s r) (es : List ℕ) (st : Stands p y s es) where
+module _ (p : ImDetectParams) (y : List Float) (b : ℕ) (s : Search) (r : Step) (goes : Goes p y b s r) (es : List ℕ) (st : Stands p y s es) where
   pub answer-end : r ≡ End → keptTo p y (length y - 2) ≡ es
-  answer-end e = subst (After p y s es) e (goes es st)
+  answer-end e = subst (After p y b s es) e (goes es st)
+
+  pub answer-stop : (t : Search) → r ≡ Deep t → Stopped p y b s es t
+  answer-stop t e = subst (After p y b s es) e (goes es st)
 
   module _ (m : Measured) (t : Search) (e : r ≡ Peak m t) where
     pub answer-peak : Answered p y s es m t
-    answer-peak = subst (After p y s es) e (goes es st)
+    answer-peak = subst (After p y b s es) e (goes es st)
 
     pub answer-inside : (z : List Float) (axis : List ℕ) (first room : ℕ) → Ready y z axis first room → Inside y z axis m
     answer-inside z axis first room h =
@@ -442,19 +461,23 @@ module _ (p : ImDetectParams) (y : List Float) (s : Search) (r : Step) (goes : G
     pub answer-fits : length es < mostPeaks (length y)
     answer-fits = omega (arith, stands-count p y t (m .index ∷ es) (answer-peak .stands))
 
-module _ (place : RowPlace) (bounds : FrameBounds) (mobility : List Float) (axis : List ℕ) (y z : List Float) (first : ℕ) where
-  -- the records of the apexes es stand at the front of the buffer d, and there are n of them
-  pub record Listed (es d out : List ℕ) (n : ℕ) : Type 0 where
-    pub count : n ≡ length es
-    pub front : out ≡ rowWords place bounds mobility axis y z first es ++ drop (n * size) d
+-- what a listing says
+module _ (F : ℕ → List ℕ → Type 0) (p : ImDetectParams) (y : List Float) (b : ℕ) (r : Listing) (lists : Lists F p y b r) where
+  pub lists-all : (n : ℕ) → r ≡ listing.All n → F n (keptTo p y (length y - 2))
+  lists-all n e = subst (Lists F p y b) e lists
 
-  pub none-listed : (d : List ℕ) → Listed [] d d 0
+  pub lists-part : (n : ℕ) (t : Search) → r ≡ listing.Deep n t → Begun (F n) p y t × Lacking b y
+  lists-part n t e = subst (Lists F p y b) e lists
+
+module _ (place : RowPlace) (bounds : FrameBounds) (mobility : List Float) (axis : List ℕ) (y z : List Float) (first : ℕ) where
+  -- a search starts with nothing listed
+  pub begin-listed : (p : ImDetectParams) (s : Search) (d : List ℕ) → Starts s → Begun (Listed place bounds mobility axis y z first d d 0) p y s
   unfolding rowWords
-  none-listed d = record { count = refl; front = refl }
+  begin-listed p s d starts = record { answers = []; stands = starts p y; written = record { count = refl; front = refl } }
 
   -- one more record behind them
-  pub one-listed : (es d out next : List ℕ) (n i : ℕ) (peak : ImPeak1D) → Listed es d out n → peak ≡ peakOf place bounds mobility axis y z i (first + n)
-      → next ≡ withPeak out n peak → Listed (i ∷ es) d next (n + 1)
+  pub one-listed : (es d out next : List ℕ) (n i : ℕ) (peak : ImPeak1D) → Listed place bounds mobility axis y z first d out n es → peak ≡ peakOf place bounds mobility axis y z i (first + n)
+      → next ≡ withPeak out n peak → Listed place bounds mobility axis y z first d next (n + 1) (i ∷ es)
   unfolding rowWords withPeak
   one-listed es d out next n i peak h e o =
       let W = rowWords place bounds mobility axis y z first es in

@@ -1,27 +1,33 @@
 -- The steps of the row finder: what it asks of its arguments, what it measures of an apex, and how the search goes from one
--- kept apex to the next.
+-- kept apex to the next, with its records listed as it goes.
 use mathlib.Core.Path.{_≡_}
 use mathlib.Core.Bool.{Bool, true, false, cond}
-use mathlib.Core.List.{List, [], _∷_}
+use mathlib.Core.List.{List, [], _∷_, _++_}
 use mathlib.Core.Logic.{_⊎_}
 use Prim.Native.Nat.{ℕ, _+_, _-_, _*_, _^_, _≤_, _<_}
 use lib.Dec.{ltb}
-use lib.ListN.{length}
+use lib.ListN.{length, drop}
 use lib.Ieee.{Float, le}
 use Rattle.numeric.specs.Arith.{at}
 use Rattle.apex.specs.Apex.{isCandidate, prominence}
 use Rattle.record.specs.Record.{size}
 use Rattle.params.specs.Params.{mostPeaks}
 use Rattle.params.specs.declared.ImDetectParams.{ImDetectParams}
-use Rattle.row.specs.Row.{leftX, rightX, width, qualifies}
+use Rattle.params.specs.declared.RowPlace.{RowPlace}
+use Rattle.params.specs.declared.FrameBounds.{FrameBounds}
+use Rattle.row.specs.Row.{leftX, rightX, width, qualifies, rowWords}
 use Rattle.row.specs.declared.inner.Measured.{Measured}
 use Rattle.row.specs.declared.inner.Found.{Found}
 use Rattle.row.specs.declared.inner.Found.the-variants.{Apex, Nothing}
+use Rattle.row.specs.declared.inner.Look.{Look}
+use Rattle.row.specs.declared.inner.Look.the-variants as look
 use Rattle.row.specs.declared.inner.Turn.{Turn}
 use Rattle.row.specs.declared.inner.Turn.the-variants.{Hold, Pass, Settle}
 use Rattle.row.specs.declared.inner.Search.{Search}
 use Rattle.row.specs.declared.inner.Step.{Step}
-use Rattle.row.specs.declared.inner.Step.the-variants.{Peak, End}
+use Rattle.row.specs.declared.inner.Step.the-variants.{Peak, Deep, End}
+use Rattle.row.specs.declared.inner.Listing.{Listing}
+use Rattle.row.specs.declared.inner.Listing.the-variants as listing
 use Rattle.row.specs.RowLaws.{keptTo}
 
 -- The row finder's arguments: rows and scan axis of one length; room for the words, and identities, of all the peaks that a
@@ -44,6 +50,16 @@ judged p y i = cond (qualifies p y i) (Apex (measuredOf y i)) Nothing
 -- the sample at i, if it is a candidate that qualifies
 unfoldable pub foundAt : ImDetectParams → List Float → ℕ → Found
 foundAt p y i = cond (isCandidate y i) (judged p y i) Nothing
+
+-- a row that can have its baselines filled, and of which no more than the first b are
+pub record Lacking (b : ℕ) (y : List Float) : Type 0 where
+  pub some : b < length y
+  pub short : length y ≤ 16384
+
+-- what is seen of the sample at i, by a list of b baselines and by walks: what is found there, or that baselines are lacking
+abbrev pub Looks : ImDetectParams → List Float → ℕ → ℕ → Look → Type 0
+Looks p y b i (look.At f budget) = f ≡ foundAt p y i
+Looks p y b i look.Deep = Lacking b y
 
 -- what becomes of the apex at i, where `last` is the held one, if one is held
 unfoldable pub turnOf : List Float → ℕ → Bool → ℕ → ℕ → Turn
@@ -99,11 +115,45 @@ pub record Answered (p : ImDetectParams) (y : List Float) (s : Search) (es : Lis
   pub stands : Stands p y t (m .index ∷ es)
   pub less : toGo y t < toGo y s
 
--- The next answer after es: one more apex that is kept, or the end, where es are all that are kept of the row.
-abbrev pub After : ImDetectParams → List Float → Search → List ℕ → Step → Type 0
-After p y s es (Peak m t) = Answered p y s es m t
-After p y s es End = keptTo p y (length y - 2) ≡ es
+-- the search t, to which s came after es without an answer, where baselines are lacking
+pub record Stopped (p : ImDetectParams) (y : List Float) (b : ℕ) (s : Search) (es : List ℕ) (t : Search) : Type 0 where
+  pub stands : Stands p y t es
+  pub less : toGo y t ≤ toGo y s
+  pub lacks : Lacking b y
+
+-- The next answer after es, by a list of b baselines and by walks: one more apex that is kept; or the end, where es are all
+-- that are kept of the row; or a stop.
+abbrev pub After : ImDetectParams → List Float → ℕ → Search → List ℕ → Step → Type 0
+After p y b s es (Peak m t) = Answered p y s es m t
+After p y b s es (Deep t) = Stopped p y b s es t
+After p y b s es End = keptTo p y (length y - 2) ≡ es
 
 -- so for whatever apexes the search has answered
-abbrev pub Goes : ImDetectParams → List Float → Search → Step → Type 0
-Goes p y s r = (es : List ℕ) → Stands p y s es → After p y s es r
+abbrev pub Goes : ImDetectParams → List Float → ℕ → Search → Step → Type 0
+Goes p y b s r = (es : List ℕ) → Stands p y s es → After p y b s es r
+
+-- ---- the list
+
+-- the records of the apexes es stand at the front of the list d, and there are n of them
+pub record Listed (place : RowPlace) (bounds : FrameBounds) (mobility : List Float) (axis : List ℕ) (y z : List Float) (first : ℕ) (d out : List ℕ) (n : ℕ) (es : List ℕ) : Type 0 where
+  pub count : n ≡ length es
+  pub front : out ≡ rowWords place bounds mobility axis y z first es ++ drop (n * size) d
+
+-- a search whose answers are written down; F says that apexes are
+pub record Begun (F : List ℕ → Type 0) (p : ImDetectParams) (y : List Float) (s : Search) : Type 0 where
+  pub answers : List ℕ
+  pub stands : Stands p y s answers
+  pub written : F answers
+
+-- what is written down in the end, in n places: all apexes that are kept, or those of a search that stopped
+abbrev pub Lists : (ℕ → List ℕ → Type 0) → ImDetectParams → List Float → ℕ → Listing → Type 0
+Lists F p y b (listing.All n) = F n (keptTo p y (length y - 2))
+Lists F p y b (listing.Deep n t) = Begun (F n) p y t × Lacking b y
+
+-- The answers of a search stand in n places of `out`, F says how. So it is lent; ..
+abbrev pub Part : (List ℕ → List ℕ → ℕ → List ℕ → Type 0) → ImDetectParams → List Float → Search → List ℕ → ℕ → Type 0
+Part F p y s out n = (d : List ℕ) × Begun (F d out n) p y s
+
+-- .. and so it is filled up, whatever was lent at first
+abbrev pub FilledUp : (List ℕ → List ℕ → ℕ → List ℕ → Type 0) → ImDetectParams → List Float → ℕ → Search → List ℕ → ℕ → List ℕ → Listing → Type 0
+FilledUp F p y b s out₀ n₀ out r = (d : List ℕ) → Begun (F d out₀ n₀) p y s → Lists (F d out) p y b r

@@ -13,8 +13,13 @@ ghost use Rattle.numeric.specs.Arith.{𝟎};
 ghost use Rattle.numeric.specs.Numeric.{clampF, castF};
 ghost use Rattle.record.specs.Record.{size};
 ghost use Rattle.row.specs.Row.{highest, reaches, subscan, scanAt, mobilityAt, groupFlag, groupWord, mobilityFlag, peakOf, kept, rowWords};
-ghost use Rattle.apex.specs.Apex.{Ground};
-ghost use Rattle.row.specs.Steps.{Inside, Ready, judged, foundAt, turnOf, Placed, Starts, Goes};
+ghost use Rattle.apex.specs.Apex.{Ground, isCandidate, baseline};
+ghost use Rattle.baselines.specs.Baselines.{Baselines};
+ghost use Rattle.row.specs.Steps.{Inside, Ready, judged, foundAt, Looks, turnOf, Placed, Starts, Goes, Listed, Part, FilledUp};
+ghost use Rattle.row.specs.declared.inner.Listing.the-variants.{All};
+
+// How many samples a search may walk over for each sample of the row before the baselines are filled instead.
+const WALKS: usize = 16;
 
 // What is measured of an apex.
 pub struct Measured {
@@ -30,6 +35,12 @@ pub enum Found {
     Nothing,
 }
 
+// What is found at a sample, and how many samples may still be walked over; or that none may, and the walk is due.
+pub enum Look {
+    At(Found, usize),
+    Deep,
+}
+
 // What becomes of an apex that qualifies: it is held as the newest that is kept, or passed over, or it settles the one that
 // is held and is held in its place.
 pub enum Turn {
@@ -38,17 +49,27 @@ pub enum Turn {
     Settle,
 }
 
-// A search for the kept apexes of a row: the next index to look at, and the newest apex that is kept so far, if any.
+// A search for the kept apexes of a row: the next index to look at, the newest apex that is kept so far, if any, and how
+// many samples may still be walked over.
 pub struct Search {
     pub next: usize,
     pub held: bool,
     pub last: Measured,
+    pub budget: usize,
 }
 
-// The next apex that is kept and the search from there on, or the end.
+// The next apex that is kept and the search from there on, or the end; or where the search stands when the walks have gone
+// over too many samples.
 pub enum Step {
     Peak(Measured, Search),
+    Deep(Search),
     End,
+}
+
+// All apexes that are kept are listed, in so many places; or those of a search that has to go on.
+pub enum Listing {
+    All(usize),
+    Deep(usize, Search),
 }
 
 // Whether the highest reading of a row, or 0, reaches the floor.
@@ -62,12 +83,12 @@ pub fn reaches_floor(z: &[f32], floor: f32) -> bool
     any
 }
 
-// The candidate at i, if it qualifies.
-fn judge(y: &[f32], ground: f32, p: ImDetectParams, i: usize) -> Found
-    requires { ⌜ (i < length (now y)) × (length (now y) ≤ 16777216) × Ground ground (now y) ⌝ }
+// The candidate at i, whose baseline is known, if it qualifies.
+fn judge(y: &[f32], base: f32, p: ImDetectParams, i: usize) -> Found
+    requires { ⌜ (i < length (now y)) × (length (now y) ≤ 16777216) × (base ≡ baseline (now y) i) ⌝ }
     ensures { λ r. ⌜ r ≡ judged p (now (y .entry)) i ⌝ }
 {
-    let rise = apex::inner::rise_of(y, ground, i);
+    let rise = apex::inner::rise_from(y, base, i);
     if rise.prominence < p.min_prom {
         return Found::Nothing;
     }
@@ -86,15 +107,54 @@ fn judge(y: &[f32], ground: f32, p: ImDetectParams, i: usize) -> Found
     })
 }
 
+// What is left of the samples that may be walked over.
+fn after_walk(budget: usize, steps: usize) -> usize
+    ensures { λ r. ⌜ r ≡ budget - steps ⌝ }
+{
+    if steps < budget { budget - steps } else { 0 }
+}
+
+// The candidate at i. Its baseline is in the list, or a walk finds it; a row of at most 16,384 samples, which can have its
+// baselines filled, is walked over only as far as the budget goes.
+fn measure_candidate(
+    y: &[f32],
+    ground: f32,
+    bases: &[f32],
+    p: ImDetectParams,
+    i: usize,
+    budget: usize,
+) -> Look
+    requires { ⌜ (i + 1 < length (now y)) × (length (now y) ≤ 16777216) × Ground ground (now y) × Baselines (now y) (now bases) × (isCandidate (now y) i ≡ true) ⌝ }
+    ensures { λ r. ⌜ Looks p (now (y .entry)) (length (now (bases .entry))) i r ⌝ }
+{
+    if i < bases.len() {
+        return Look::At(judge(y, bases[i], p, i), budget);
+    }
+    if budget == 0 {
+        if y.len() <= 16384 {
+            return Look::Deep;
+        }
+    }
+    let low = apex::inner::walk_of(y, ground, i);
+    Look::At(judge(y, low.height, p, i), after_walk(budget, low.steps))
+}
+
 // The apex at i, if there is one that qualifies.
-fn measure(y: &[f32], ground: f32, p: ImDetectParams, i: usize) -> Found
-    requires { ⌜ (0 < i) × (i + 1 < length (now y)) × (length (now y) ≤ 16777216) × Ground ground (now y) ⌝ }
-    ensures { λ r. ⌜ r ≡ foundAt p (now (y .entry)) i ⌝ }
+fn measure(
+    y: &[f32],
+    ground: f32,
+    bases: &[f32],
+    p: ImDetectParams,
+    i: usize,
+    budget: usize,
+) -> Look
+    requires { ⌜ (0 < i) × (i + 1 < length (now y)) × (length (now y) ≤ 16777216) × Ground ground (now y) × Baselines (now y) (now bases) ⌝ }
+    ensures { λ r. ⌜ Looks p (now (y .entry)) (length (now (bases .entry))) i r ⌝ }
 {
     if apex::inner::is_candidate(y, i) {
-        return judge(y, ground, p, i);
+        return measure_candidate(y, ground, bases, p, i, budget);
     }
-    Found::Nothing
+    Look::At(Found::Nothing, budget)
 }
 
 // What becomes of the apex at i, where `last` is the held one, if there is any.
@@ -114,7 +174,9 @@ fn turn_for(y: &[f32], distance: u32, any: bool, last: usize, i: usize) -> Turn
     Turn::Hold
 }
 
-pub fn search_start() -> Search
+// A search over a row of n samples.
+pub fn search_start(n: usize) -> Search
+    requires { ⌜ n ≤ 16777216 ⌝ }
     ensures { λ r. ⌜ Starts r ⌝ }
 {
     Search {
@@ -127,19 +189,29 @@ pub fn search_start() -> Search
             right_x: 0.0,
             width: 0,
         },
+        budget: WALKS * n,
     }
 }
 
 // The next apex that is kept: the held one, once an apex far enough from it qualifies or the row ends.
-pub fn next_peak(y: &[f32], ground: f32, p: ImDetectParams, s: Search) -> Step
-    requires { ⌜ (length (now y) ≤ 16777216) × Ground ground (now y) × Placed (now y) s ⌝ }
-    ensures { λ r. ⌜ Goes p (now (y .entry)) s r ⌝ }
+pub fn next_peak(y: &[f32], ground: f32, bases: &[f32], p: ImDetectParams, s: Search) -> Step
+    requires { ⌜ (length (now y) ≤ 16777216) × Ground ground (now y) × Baselines (now y) (now bases) × Placed (now y) s ⌝ }
+    ensures { λ r. ⌜ Goes p (now (y .entry)) (length (now (bases .entry))) s r ⌝ }
 {
     let mut i = s.next;
     let mut held = s.held;
     let mut last = s.last;
+    let mut budget = s.budget;
     while i + 1 < y.len() {
-        let f = measure(y, ground, p, i);
+        let look = measure(y, ground, bases, p, i, budget);
+        let Look::At(f, left) = look else {
+            return Step::Deep(Search {
+                next: i,
+                held,
+                last,
+                budget,
+            });
+        };
         if let Found::Apex(a) = f {
             let turn = turn_for(y, p.min_distance_scans, held, last.index, i);
             match turn {
@@ -155,11 +227,13 @@ pub fn next_peak(y: &[f32], ground: f32, p: ImDetectParams, s: Search) -> Step
                             next: i + 1,
                             held: true,
                             last: a,
+                            budget: left,
                         },
                     );
                 }
             }
         }
+        budget = left;
         i += 1;
     }
     if held {
@@ -169,6 +243,7 @@ pub fn next_peak(y: &[f32], ground: f32, p: ImDetectParams, s: Search) -> Step
                 next: i,
                 held: false,
                 last,
+                budget,
             },
         );
     }
@@ -283,6 +358,90 @@ pub fn peak_of(
     }
 }
 
+// Writes the records of the listed peaks that a search still has to answer behind the n that stand at the front of `out`,
+// and answers how many there are then.
+fn list_from(
+    y: &[f32],
+    z: &[f32],
+    ground: f32,
+    bases: &[f32],
+    place: RowPlace,
+    bounds: FrameBounds,
+    mobility: &[f32],
+    p: ImDetectParams,
+    axis: &[u32],
+    first: u32,
+    from: Search,
+    listed: usize,
+    out: &mut [u32],
+) -> Listing
+    requires { ⌜ Ready (now y) (now z) (now axis) first (length (now out)) × Ground ground (now y) × Baselines (now y) (now bases) × Part (Listed place bounds (now mobility) (now axis) (now y) (now z) first) p (now y) from (now out) listed ⌝ }
+    ensures { λ r. ⌜ FilledUp (Listed place bounds (now (mobility .entry)) (now (axis .entry)) (now (y .entry)) (now (z .entry)) first) p (now (y .entry)) (length (now (bases .entry))) from (now (out .entry)) listed (now (out .exit)) r ⌝ }
+{
+    let mut n = listed;
+    let mut s = from;
+    loop {
+        let step = next_peak(y, ground, bases, p, s);
+        match step {
+            Step::Peak(a, t) => {
+                let peak = peak_of(y, z, place, bounds, mobility, axis, a, first + n as u32);
+                record::inner::put_peak(out, n, peak);
+                n += 1;
+                s = t;
+            }
+            Step::Deep(t) => {
+                return Listing::Deep(n, t);
+            }
+            Step::End => {
+                return Listing::All(n);
+            }
+        }
+    }
+}
+
+// The same with the baselines of the whole row filled first.
+fn list_deep(
+    y: &[f32],
+    z: &[f32],
+    ground: f32,
+    place: RowPlace,
+    bounds: FrameBounds,
+    mobility: &[f32],
+    p: ImDetectParams,
+    axis: &[u32],
+    first: u32,
+    from: Search,
+    listed: usize,
+    out: &mut [u32],
+) -> usize
+    requires { ⌜ Ready (now y) (now z) (now axis) first (length (now out)) × Ground ground (now y) × (length (now y) ≤ 16384) × Part (Listed place bounds (now mobility) (now axis) (now y) (now z) first) p (now y) from (now out) listed ⌝ }
+    ensures { λ r. ⌜ FilledUp (Listed place bounds (now (mobility .entry)) (now (axis .entry)) (now (y .entry)) (now (z .entry)) first) p (now (y .entry)) (length (now (y .entry))) from (now (out .entry)) listed (now (out .exit)) (All r) ⌝ }
+{
+    let mut bases = [0f32; 16384];
+    let mut links = [0u32; 16384];
+    let mut lows = [0f32; 16384];
+    baselines::inner::fill_baselines(y, &mut bases, &mut links, &mut lows);
+    let l = list_from(
+        y,
+        z,
+        ground,
+        &bases,
+        place,
+        bounds,
+        mobility,
+        p,
+        axis,
+        first,
+        from,
+        listed,
+        out,
+    );
+    match l {
+        Listing::All(n) => n,
+        Listing::Deep(n, _) => n,
+    }
+}
+
 // Writes the records of the listed peaks of a row that reaches the floor to the front of `out` and answers how many there are.
 pub fn list_peaks(
     y: &[f32],
@@ -300,21 +459,38 @@ pub fn list_peaks(
     ensures front { λ r. ⌜ now (out .exit) ≡ rowWords place bounds (now (mobility .entry)) (now (axis .entry)) (now (y .entry)) (now (z .entry)) first (kept p (now (y .entry)) (now (z .entry))) ++ drop (r * size) (now (out .entry)) ⌝ }
 {
     let ground = apex::inner::ground_of(y);
-    let mut n = 0usize;
-    let mut s = search_start();
-    loop {
-        let step = next_peak(y, ground, p, s);
-        match step {
-            Step::Peak(a, t) => {
-                let peak = peak_of(y, z, place, bounds, mobility, axis, a, first + n as u32);
-                record::inner::put_peak(out, n, peak);
-                n += 1;
-                s = t;
-            }
-            Step::End => {
-                return n;
-            }
-        }
+    let s = search_start(y.len());
+    let l = list_from(
+        y,
+        z,
+        ground,
+        &y[..0],
+        place,
+        bounds,
+        mobility,
+        p,
+        axis,
+        first,
+        s,
+        0,
+        out,
+    );
+    match l {
+        Listing::All(n) => n,
+        Listing::Deep(n, t) => list_deep(
+            y,
+            z,
+            ground,
+            place,
+            bounds,
+            mobility,
+            p,
+            axis,
+            first,
+            t,
+            n,
+            out,
+        ),
     }
 }
 

@@ -48,28 +48,34 @@ loop-again c = let l = c .before .before .before .before .before in
           (c .if3 .left),
     )
 
-returns : tie.Need-returns Inv-loop μ-loop
-returns c = let l = c .before .before in
+-- where the walk ends
+ended : (c : tie.Left-loop Inv-loop μ-loop) → (c .loop-test .l ≤ c .before .before .before .args .i) × (c .loop-test .m ≡ least (at (c .before .before .before .args .y .now) (c .before .before .before .args .i)) (upToHigher (at (c .before .before .before .args .y .now) (c .before .before .before .args .i)) (leftOf (c .before .before .before .args .y .now) (c .before .before .before .args .i))))
+ended c = let l = c .before in
     let s = l .before .before in
     let y = s .args .y .now in
-    sym (l .loop .inv .1 ∙ walk-ground (s .args .ground) (at y (s .args .i)) (l .loop .m) (leftOf y (l .loop .l)) (s .pre .1 .number) (ground-left (s .args .ground) y (l .loop .l) (s .pre .1 .none)) (c .if1 .left))
-
-returns-2 : tie.Need-returns-2 Inv-loop μ-loop
-returns-2 c = let l = c .before in
-    let args = l .before .before .args in
-    let y = args .y .now in
-    sym (l .loop .inv .1 ∙ walk-none (at y (args .i)) (l .loop .m) (leftOf y (l .loop .l)) (left-none y (l .loop .l) (omega arith)))
-
-returns-3 : tie.Need-returns-3 Inv-loop μ-loop
-returns-3 c = let l = c .before .before .before .before .before in
-    let args = l .before .before .args in
-    let y = args .y .now in
+    let apex = at y (s .args .i) in
     let k = l .loop .l in
-    sym
-    (l .loop .inv .1
-    ∙ walk-stop (at y (args .i)) (l .loop .m) (c .before .if2 .m) (at y (k - 1)) (leftOf y k) (leftOf y (k - 1)) (left-cons y k (omega arith))
-    (⊎-elim (λ w. rw (w .0 .taken, w .1)) (λ w. rw (w .0 .left, w .1)) (c .before .if2 .came))
-    (c .if3 .taken))
+    ⊎-elim
+    (λ w. rw (w .2, w .3) (omega arith, sym (l .loop .inv .1 ∙ walk-ground (s .args .ground) apex (l .loop .m) (leftOf y k) (s .pre .1 .number) (ground-left (s .args .ground) y k (s .pre .1 .none)) (w .1 .left))))
+    (λ v.
+    ⊎-elim
+    (λ w. rw (w .1, w .2) (omega arith, sym (l .loop .inv .1 ∙ walk-none apex (l .loop .m) (leftOf y k) (left-none y k (omega arith)))))
+    (λ w. rw (w .5, w .6) (
+      omega arith,
+      sym
+          (l .loop .inv .1
+          ∙ walk-stop apex (l .loop .m) (w .3 .m) (at y (k - 1)) (leftOf y k) (leftOf y (k - 1)) (left-cons y k (omega arith))
+          (⊎-elim (λ u. rw (u .0 .taken, u .1)) (λ u. rw (u .0 .left, u .1)) (w .3 .came))
+          (w .4 .taken)),
+    ))
+    v)
+    (c .loop-test .came)
+
+sub-t8 : tie.Need-sub-t8 Inv-loop μ-loop
+sub-t8 c = ended (c .before) .0
+
+returns : tie.Need-returns Inv-loop μ-loop
+returns c = let e = ended (c .before) in (omega arith, e .1)
 
 pub left-least-spec : {M : Type 1} → statement M
 left-least-spec =
@@ -85,6 +91,5 @@ left-least-spec =
     shared-slice-read-v
     loop-less
     loop-again
-    returns
-    returns-2
-    returns-3)
+    sub-t8
+    returns)

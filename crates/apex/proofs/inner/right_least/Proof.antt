@@ -1,21 +1,24 @@
 use lib.ListN.{drop-of-length-le}
 use Rattle.numeric.specs.Arith.{at}
+use Rattle.numeric.specs.Numeric.{maxF}
 use Rattle.apex.specs.Apex.{rightOf, upToHigher, least}
-use Rattle.apex.proofs.Laws.{right-cons, walk-none, walk-on, walk-stop, walk-ground, ground-drop}
-use mathlib.Core.Path.{_≡_, sym, _∙_}
+use Rattle.apex.proofs.Laws.{right-cons, walk-none, walk-on, walk-stop, walk-enough}
+use mathlib.Core.Path.{_≡_, sym, ap, _∙_}
 use mathlib.Core.Logic.{⊎-elim}
 use Prim.Native.Nat.{_≤_, _-_, _+_}
 use native.Mathlib.Omega.{arith}
 use borrow.Author.Needs.{needs}
+use borrow.Author.Tests.{not-false}
+use lib.Ieee.{le}
 use lib.ListN.{length, drop}
 use Rattle.apex.proofs.inner.right_least.Statement.{statement}
 use Rattle.apex.proofs.inner.right_least.Tie as tie
 
 abbrev Inv-loop : tie.InvT-loop
-Inv-loop y ground i apex m₀ r₀ m r = (r ≤ length y) × (i + 1 ≤ r) × (least apex (upToHigher apex (rightOf y i)) ≡ least m (upToHigher apex (drop r y)))
+Inv-loop y left i apex m₀ r₀ m r = (r ≤ length y) × (i + 1 ≤ r) × (least apex (upToHigher apex (rightOf y i)) ≡ least m (upToHigher apex (drop r y)))
 
 abbrev μ-loop : tie.MeasureT-loop
-μ-loop y ground i apex m₀ r₀ m r = length y - r
+μ-loop y left i apex m₀ r₀ m r = length y - r
 
 mul-apex : tie.Need-mul-apex Inv-loop μ-loop
 mul-apex c = search needs
@@ -54,28 +57,37 @@ loop-again c = let l = c .before .before .before .before .before in
           (c .if3 .left),
     )
 
-returns : tie.Need-returns Inv-loop μ-loop
-returns c = let l = c .before .before in
+-- where the walk ends
+ended : (c : tie.Left-loop Inv-loop μ-loop) → (c .before .before .before .args .i ≤ c .loop-test .r) × (c .loop-test .r ≤ length (c .before .before .before .args .y .now)) × (maxF (c .before .before .before .args .left) (c .loop-test .m) ≡ maxF (c .before .before .before .args .left) (least (at (c .before .before .before .args .y .now) (c .before .before .before .args .i)) (upToHigher (at (c .before .before .before .args .y .now) (c .before .before .before .args .i)) (rightOf (c .before .before .before .args .y .now) (c .before .before .before .args .i)))))
+ended c = let l = c .before in
     let s = l .before .before in
     let y = s .args .y .now in
-    sym (l .loop .inv .2 ∙ walk-ground (s .args .ground) (at y (s .args .i)) (l .loop .m) (drop (l .loop .r) y) (s .pre .1 .number) (ground-drop (s .args .ground) y (l .loop .r) (s .pre .1 .none)) (c .if1 .left))
-
-returns-2 : tie.Need-returns-2 Inv-loop μ-loop
-returns-2 c = let l = c .before in
-    let args = l .before .before .args in
-    let y = args .y .now in
-    sym (l .loop .inv .2 ∙ walk-none (at y (args .i)) (l .loop .m) (drop (l .loop .r) y) (let h : length y ≤ l .loop .r = omega arith in drop-of-length-le y h))
-
-returns-3 : tie.Need-returns-3 Inv-loop μ-loop
-returns-3 c = let l = c .before .before .before .before .before in
-    let args = l .before .before .args in
-    let y = args .y .now in
+    let apex = at y (s .args .i) in
+    let top = s .args .left in
     let k = l .loop .r in
-    sym
-    (l .loop .inv .2
-    ∙ walk-stop (at y (args .i)) (l .loop .m) (c .before .if2 .m) (at y k) (drop k y) (drop (k + 1) y) (right-cons y k (omega arith))
-    (⊎-elim (λ w. rw (w .0 .taken, w .1)) (λ w. rw (w .0 .left, w .1)) (c .before .if2 .came))
-    (c .if3 .taken))
+    ⊎-elim
+    (λ w. rw (w .2, w .3) (omega arith, omega arith, sym (ap (maxF top) (l .loop .inv .2) ∙ walk-enough top apex (l .loop .m) (drop k y) (not-false (le (l .loop .m) top) (w .1 .left)))))
+    (λ v.
+    ⊎-elim
+    (λ w. rw (w .1, w .2) (omega arith, omega arith, sym (ap (maxF top) (l .loop .inv .2 ∙ walk-none apex (l .loop .m) (drop k y) (let h : length y ≤ k = omega arith in drop-of-length-le y h)))))
+    (λ w. rw (w .5, w .6) (
+      omega arith,
+      omega arith,
+      sym
+          (ap (maxF top)
+          (l .loop .inv .2
+          ∙ walk-stop apex (l .loop .m) (w .3 .m) (at y k) (drop k y) (drop (k + 1) y) (right-cons y k (omega arith))
+          (⊎-elim (λ u. rw (u .0 .taken, u .1)) (λ u. rw (u .0 .left, u .1)) (w .3 .came))
+          (w .4 .taken))),
+    ))
+    v)
+    (c .loop-test .came)
+
+sub-t8 : tie.Need-sub-t8 Inv-loop μ-loop
+sub-t8 c = ended (c .before) .0
+
+returns : tie.Need-returns Inv-loop μ-loop
+returns c = let e = ended (c .before) in (omega arith, e .2)
 
 pub right-least-spec : {M : Type 1} → statement M
 right-least-spec =
@@ -92,6 +104,5 @@ right-least-spec =
     add-r-2
     loop-less
     loop-again
-    returns
-    returns-2
-    returns-3)
+    sub-t8
+    returns)

@@ -1,150 +1,107 @@
-use borrow.Author.Tests.{not-true, not-false}
-use Rattle.params.specs.declared.RowPlace.{RowPlace}
-use Rattle.params.specs.declared.FrameBounds.{FrameBounds}
-use Rattle.row.specs.Row.{kept, peakOf}
-use Rattle.row.specs.Steps.{Stands, Answered, toGo}
-use Rattle.row.specs.RowLaws.{kept-high, kept-low}
-use Rattle.row.proofs.Laws.{answer-end, answer-peak, answer-fits}
-use Rattle.peaklines.specs.RowLines.{linesOf, placeOf, noFrames}
-use Rattle.peaklines.proofs.Laws.{Printed, none-printed, one-printed, lines-most}
-use mathlib.Core.Path.{_≡_, refl, sym, _∙_, ap}
-use mathlib.Core.List.{List, []}
-use Prim.Native.Nat.{ℕ}
+use mathlib.Core.Path.{_≡_, refl, sym, _∙_, subst}
+use mathlib.Core.List.{[]}
+use Prim.Native.Nat.{_-_}
 use native.Mathlib.Omega.{arith}
 use borrow.Author.Needs.{needs}
 use lib.ListN.{length}
+use borrow.Author.Tests.{not-true, not-false}
+use Rattle.row.specs.Row.{kept}
+use Rattle.row.specs.RowLaws.{keptTo, kept-high, kept-low}
+use Rattle.row.specs.Steps.{Lists}
+use Rattle.row.proofs.Laws.{lists-all, lists-part}
+use Rattle.peaklines.specs.RowLines.{linesOf, Ready, Printed}
+use Rattle.peaklines.proofs.Laws.{begin-printed}
 use Rattle.peaklines.proofs.inner.put_row_lines.Statement.{statement}
 use Rattle.peaklines.proofs.inner.put_row_lines.Tie as tie
 
-abbrev Inv-loop : tie.InvT-loop
-Inv-loop y tof-row p axis out₀ place bounds ground n₀ s₀ out n s =
-    (length out ≡ length out₀) × ((es : List ℕ) × Stands p y s es × Printed tof-row axis y es out₀ out n)
-
-abbrev μ-loop : tie.MeasureT-loop
-μ-loop y tof-row p axis out₀ place bounds ground n₀ s₀ out n s = toGo y s
-
--- the apex that is answered
-answered : (c : tie.After-known-told Inv-loop μ-loop)
-    → Answered (c .before .before .before .before .before .before .before .before .before .before .before .before .before .before .args .p) (c .before .before .before .before .before .before .before .before .before .before .before .before .before .before .args .y .now) (c .before .before .before .before .loop .s) (c .before .before .before .before .loop .inv .1 .0) (c .before .step .given .0 .0) (c .before .step .given .0 .1 .0)
-answered c = let n = c .before .before .before in
-    let l = n .before in
-    let s = l .before .before .before .before .before .before .before .before .before .before in
-    answer-peak (s .args .p) (s .args .y .now) (l .loop .s) _ (n .next-peak .ensures) (l .loop .inv .1 .0) (l .loop .inv .1 .1) _ _ (c .before .step .given .1)
-
-reaches-floor-requires : tie.Need-reaches-floor-requires Inv-loop μ-loop
+reaches-floor-requires : tie.Need-reaches-floor-requires
 reaches-floor-requires c κs = search needs
 
-returns : tie.Need-returns Inv-loop μ-loop
+returns : tie.Need-returns
 unfolding linesOf
 returns c = let f = c .before in
     let s = f .before .before .before .before in
     let e : kept (s .args .p) (s .args .y .now) (s .args .y .now) ≡ [] = kept-low (s .args .p) (s .args .y .now) (s .args .y .now) (sym (f .reaches-floor .ensures) ∙ not-true _ (c .if1 .taken)) in
     rw e (refl, refl)
 
-place-of-requires : tie.Need-place-of-requires Inv-loop μ-loop
-place-of-requires c κs = search needs
-
-no-frames-requires : tie.Need-no-frames-requires Inv-loop μ-loop
-no-frames-requires c κs = search needs
-
-ground-of-requires : tie.Need-ground-of-requires Inv-loop μ-loop
+ground-of-requires : tie.Need-ground-of-requires
 ground-of-requires c κs = search needs
 
-search-start-requires : tie.Need-search-start-requires Inv-loop μ-loop
+search-start-requires : tie.Need-search-start-requires
 search-start-requires c κs = search needs
 
-loop-holds : tie.Need-loop-holds Inv-loop μ-loop
-loop-holds c = let s = c .before .before .before .before .before .before .before .before .before in
-    (refl, ([], c .search-start .ensures (s .args .p) (s .args .y .now), none-printed (s .args .tof-row) (s .args .axis .now) (s .args .y .now) (s .args .out .now)))
+slice-aggregate-put-lines-from : tie.Need-slice-aggregate-put-lines-from
+slice-aggregate-put-lines-from c = search needs
 
-next-peak-requires : tie.Need-next-peak-requires Inv-loop μ-loop
-next-peak-requires c κs = let s = c .before .before .before .before .before .before .before .before .before .before in
-    (omega (arith, s .pre .1), c .before .before .ground-of .ensures, c .loop .inv .1 .1 .placed)
+put-lines-from-requires : tie.Need-put-lines-from-requires
+put-lines-from-requires c κs = let s = c .before .before .before .before .before .before .before .before .before in
+    let x = s .args in
+    (s .pre, c .before .before .before .ground-of .ensures, λ i h k q. absurd (omega arith), (_, (begin-printed (x .tof-row) (x .axis .now) (x .y .now) (x .p) _ (x .out .now) (c .before .before .search-start .ensures))))
 
-enum-known-step : tie.Need-enum-known-step Inv-loop μ-loop
-enum-known-step c = search needs
+-- what is printed by walks, ..
+walked : (c : tie.After-put-lines-from) → let x = c .before .before .before .before .before .before .before .before .before .before .args in
+    Lists (Printed (x .tof-row) (x .axis .now) (x .y .now) (x .out .now) (c .put-lines-from .last .1 .1 .1 .1 .1 .1 .1 .1 .0)) (x .p) (x .y .now) 0 (c .put-lines-from .result)
+walked c = let x = c .before .before .before .before .before .before .before .before .before .before .args in
+    c .put-lines-from .ensures (x .out .now) (begin-printed (x .tof-row) (x .axis .now) (x .y .now) (x .p) _ (x .out .now) (c .before .before .before .search-start .ensures))
 
-slice-aggregate-peak-of : tie.Need-slice-aggregate-peak-of Inv-loop μ-loop
-slice-aggregate-peak-of c = search needs
+-- .. in a row that reaches the floor
+high : (c : tie.After-put-lines-from) → let x = c .before .before .before .before .before .before .before .before .before .before .args in
+    kept (x .p) (x .y .now) (x .y .now) ≡ keptTo (x .p) (x .y .now) (length (x .y .now) - 2)
+high c = let f = c .before .before .before .before .before .before in
+    let x = f .before .before .before .before .args in
+    kept-high (x .p) (x .y .now) (x .y .now) (sym (f .reaches-floor .ensures) ∙ not-false _ (c .before .before .before .before .before .if1 .left))
 
-peak-of-requires : tie.Need-peak-of-requires Inv-loop μ-loop
-peak-of-requires c κs = let k = c .before in
-    let s = k .before .before .before .before .before .before .before .before .before .before .before .before .before .before in
-    let a = answered k in
-    record { is = a .is; low = a .low; high = a .high; raw = refl; scans = s .pre .0; short = omega (arith, s .pre .1) }
+enum-known-l : tie.Need-enum-known-l
+enum-known-l c = search needs
 
-append-line-requires : tie.Need-append-line-requires Inv-loop μ-loop
-append-line-requires c κs = let k = c .before .before .before in
-    let n = k .before .before .before in
-    let l = n .before in
-    let s = l .before .before .before .before .before .before .before .before .before .before in
-    let inv = l .loop .inv in
-    omega (arith, answer-fits (s .args .p) (s .args .y .now) (l .loop .s) _ (n .next-peak .ensures) (inv .1 .0) (inv .1 .1) _ _ (k .before .step .given .1), inv .1 .2 .count, lines-most (s .args .tof-row) (s .args .axis .now) (s .args .y .now) (inv .1 .0), inv .0, s .pre .2)
+enum-known-l-2 : tie.Need-enum-known-l-2
+enum-known-l-2 c = search needs
 
-loop-less : tie.Need-loop-less Inv-loop μ-loop
-loop-less c = answered (c .before .before .before .before .before .before) .less
-
-loop-again : tie.Need-loop-again Inv-loop μ-loop
-loop-again c = let w = c .before .before in
-    let q = w .before .before in
-    let k = q .before .before in
-    let l = k .before .before .before .before in
-    let s = l .before .before .before .before .before .before .before .before .before .before in
-    let inv = l .loop .inv in
-    let y = s .args .y .now in
-    let axis = s .args .axis .now in
-    let i = k .before .step .given .0 .0 .index in
-    let e : q .peak-of .result ≡ peakOf (placeOf (s .args .tof-row)) noFrames [] axis y y i 0 =
-    q .peak-of .ensures
-    ∙ ap (λ (r : RowPlace). peakOf r (l .before .before .before .no-frames .result) [] axis y y i 0) (l .before .before .before .before .place-of .ensures)
-    ∙ ap (λ (f : FrameBounds). peakOf (placeOf (s .args .tof-row)) f [] axis y y i 0) (l .before .before .before .no-frames .ensures) in (
-      w .append-line .kept .0 ∙ inv .0,
-      (
-        _,
-        answered k .stands,
-        one-printed (s .args .tof-row) axis y (inv .1 .0) (s .args .out .now) (l .loop .out) (w .append-line .last .0) (l .loop .n) (w .append-line .result) i (inv .1 .2)
-            (rw (← e) (w .append-line .ensures .0))
-            (rw (← e) (w .append-line .ensures .1)),
-      ),
+put-lines-deep-requires : tie.Need-put-lines-deep-requires
+put-lines-deep-requires c κs = let f = c .before .before .before .before .before .before in
+    let s = f .before .before .before .before .before .before .before .before .before .before in
+    let x = s .args in
+    let a = lists-part (Printed (x .tof-row) (x .axis .now) (x .y .now) (x .out .now) _) (x .p) (x .y .now) _ _ (walked f) _ _ (c .before .before .l2 .given .1) in (
+      subst (Ready (x .y .now) (x .axis .now)) (sym (f .put-lines-from .kept .1 .1 .1 .1 .1 .1 .1 .1 .0)) (s .pre),
+      f .before .before .before .before .ground-of .ensures,
+      (x .out .now, a .0),
     )
 
-enum-told : tie.Need-enum-told Inv-loop μ-loop
-enum-told c = search needs
-
-same-length : tie.Need-same-length Inv-loop μ-loop
+same-length : tie.Need-same-length
 same-length c = search needs
 
-returns-2 : tie.Need-returns-2 Inv-loop μ-loop
-returns-2 c = let n = c .before .before in
-    let l = n .before in
-    let f = l .before .before .before .before .before .before in
-    let s = f .before .before .before .before in
-    let p = s .args .p in
-    let y = s .args .y .now in
-    let inv = l .loop .inv .1 in
-    let e : kept p y y ≡ inv .0 = kept-high p y y (sym (f .reaches-floor .ensures) ∙ not-false _ (l .before .before .before .before .before .if1 .left)) ∙ answer-end p y (l .loop .s) _ (n .next-peak .ensures) (inv .0) (inv .1) (c .enum-told .given .1) in
-    rw e (inv .2 .count, inv .2 .front)
+returns-2 : tie.Need-returns-2
+returns-2 c = let f = c .before .before .before .before .before in
+    let x = f .before .before .before .before .before .before .before .before .before .before .args in
+    let w = lists-all (Printed (x .tof-row) (x .axis .now) (x .y .now) (x .out .now) _) (x .p) (x .y .now) _ _ (walked f) _ (c .before .l .given .1) in
+    rw (high f) (w .count, w .front)
+
+same-length-2 : tie.Need-same-length-2
+same-length-2 c = search needs
+
+returns-3 : tie.Need-returns-3
+returns-3 c = let d = c .before .before in
+    let k = d .before .before .before in
+    let f = k .before .before .before .before in
+    let x = f .before .before .before .before .before .before .before .before .before .before .args in
+    let a = lists-part (Printed (x .tof-row) (x .axis .now) (x .y .now) (x .out .now) _) (x .p) (x .y .now) _ _ (walked f) _ _ (k .l2 .given .1) in
+    let w = d .put-lines-deep .ensures (x .out .now) (a .0) in
+    rw (high f) (w .count, w .front)
 
 pub put-row-lines-spec : {M : Type 1} → statement M
 put-row-lines-spec =
     tie.close
     (tie.spec
-    Inv-loop
-    μ-loop
     reaches-floor-requires
     returns
-    place-of-requires
-    no-frames-requires
     ground-of-requires
     search-start-requires
-    loop-holds
-    next-peak-requires
-    enum-known-step
-    slice-aggregate-peak-of
-    peak-of-requires
-    append-line-requires
-    loop-less
-    loop-again
-    enum-told
+    slice-aggregate-put-lines-from
+    put-lines-from-requires
+    enum-known-l
+    enum-known-l-2
+    put-lines-deep-requires
     same-length
-    returns-2)
+    returns-2
+    same-length-2
+    returns-3)

@@ -4,12 +4,12 @@ use borrow.Author.Needs.{needs}
 use Rattle.row.proofs.inner.judge.Statement.{statement}
 use Rattle.row.proofs.inner.judge.Tie as tie
 
-rise-of-requires : tie.Need-rise-of-requires
-rise-of-requires c κs = search needs
+rise-from-requires : tie.Need-rise-from-requires
+rise-from-requires c κs = search needs
 
 returns : tie.Need-returns
 returns c = let s = c .before .before .before .before .before in
-    judge-low (s .args .p) (s .args .y .now) (s .args .i) _ (c .before .before .before .rise-of .ensures) (c .if1 .taken)
+    judge-low (s .args .p) (s .args .y .now) (s .args .i) _ (c .before .before .before .rise-from .ensures) (c .if1 .taken)
 
 left-crossing-requires : tie.Need-left-crossing-requires
 left-crossing-requires c κs = search needs
@@ -30,19 +30,19 @@ returns-2 : tie.Need-returns-2
 returns-2 c = let r = c .before .before .before .before .before .before in
     let o = r .before .before .before .before in
     let s = o .before .before in
-    judge-narrow (s .args .p) (s .args .y .now) (s .args .i) _ (o .rise-of .ensures) (r .before .if1 .left) _ _ (r .left-crossing .ensures) (c .before .before .before .before .before .right-crossing .ensures) _ (c .before .before .cast-sat .ensures ∙ rw (c .before .before .before .round .ensures, c .before .before .before .before .max .ensures)) (c .if2 .taken)
+    judge-narrow (s .args .p) (s .args .y .now) (s .args .i) _ (o .rise-from .ensures) (r .before .if1 .left) _ _ (r .left-crossing .ensures) (c .before .before .before .before .before .right-crossing .ensures) _ (c .before .before .cast-sat .ensures ∙ rw (c .before .before .before .round .ensures, c .before .before .before .before .max .ensures)) (c .if2 .taken)
 
 returns-3 : tie.Need-returns-3
 returns-3 c = let r = c .before .before .before .before .before .before in
     let o = r .before .before .before .before in
     let s = o .before .before in
-    judge-wide (s .args .p) (s .args .y .now) (s .args .i) _ (o .rise-of .ensures) (r .before .if1 .left) _ _ (r .left-crossing .ensures) (c .before .before .before .before .before .right-crossing .ensures) _ (c .before .before .cast-sat .ensures ∙ rw (c .before .before .before .round .ensures, c .before .before .before .before .max .ensures)) (c .if2 .left)
+    judge-wide (s .args .p) (s .args .y .now) (s .args .i) _ (o .rise-from .ensures) (r .before .if1 .left) _ _ (r .left-crossing .ensures) (c .before .before .before .before .before .right-crossing .ensures) _ (c .before .before .cast-sat .ensures ∙ rw (c .before .before .before .round .ensures, c .before .before .before .before .max .ensures)) (c .if2 .left)
 
 pub judge-spec : {M : Type 1} → statement M
 judge-spec =
     tie.close
     (tie.spec
-    rise-of-requires
+    rise-from-requires
     returns
     left-crossing-requires
     right-crossing-requires

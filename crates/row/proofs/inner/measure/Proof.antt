@@ -7,16 +7,17 @@ use Rattle.row.proofs.inner.measure.Tie as tie
 is-candidate-requires : tie.Need-is-candidate-requires
 is-candidate-requires c κs = search needs
 
-judge-requires : tie.Need-judge-requires
-judge-requires c κs = search needs
+measure-candidate-requires : tie.Need-measure-candidate-requires
+measure-candidate-requires c κs = let s = c .before .before .before .before in
+    (s .pre .1, s .pre .2, s .pre .3, s .pre .4, sym (c .before .is-candidate .ensures) ∙ c .if1 .taken)
 
 returns : tie.Need-returns
-unfolding foundAt
-returns c = rw (sym (c .before .before .is-candidate .ensures) ∙ c .before .if1 .taken) (c .judge .ensures)
+returns c = search needs
 
 returns-2 : tie.Need-returns-2
 unfolding foundAt
 returns-2 c = rw (sym (c .before .is-candidate .ensures) ∙ c .if1 .left)
 
 pub measure-spec : {M : Type 1} → statement M
-measure-spec = tie.close (tie.spec is-candidate-requires judge-requires returns returns-2)
+measure-spec =
+    tie.close (tie.spec is-candidate-requires measure-candidate-requires returns returns-2)

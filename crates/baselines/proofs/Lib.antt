@@ -1,0 +1,2 @@
+-- What the proofs of `baselines` cite.
+pub mod Laws

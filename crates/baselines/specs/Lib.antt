@@ -1,0 +1,3 @@
+-- The definitions that the contracts of `baselines` cite.
+pub mod Baselines
+pub mod Links
