@@ -1,11 +1,10 @@
 -- The lines that stand at the front of a buffer, and one line more. Assumes nothing.
 use mathlib.Core.Path.{_≡_, refl, sym, _∙_, ap, subst}
-use mathlib.Core.List.{List, [], _∷_, _++_, append-assoc, append-nil}
+use mathlib.Core.List.{List, [], _∷_, _++_, append-assoc}
 use Prim.Native.Nat.{ℕ, _≤_, _+_, _-_, _*_}
 use native.Mathlib.Omega.{arith}
-use borrow.Rule.Slice.PartMut.{putMid}
-use lib.ListN.{length, take, drop, length-append, length-drop, drop-of-length-le}
-use lib.Seq.{take-at, take-all, drop-drop, drop-append-add}
+use lib.ListN.{length, take, drop, length-append}
+use lib.Seq.{take-at, drop-drop, drop-append-add}
 use lib.Ieee.{Float}
 use Rattle.params.specs.declared.ImDetectParams.{ImDetectParams}
 use Rattle.row.specs.Row.{peakOf}
@@ -14,15 +13,6 @@ use Rattle.row.specs.declared.inner.Search.{Search}
 use Rattle.table.specs.Print.{peakLine}
 use Rattle.table.specs.Facts.{line-most}
 use Rattle.peaklines.specs.RowLines.{placeOf, noFrames, linesOf, Printed}
-
--- r bytes R, written through the part `&mut out[a..]`
-pub put-part : (out R last : List ℕ) (a r : ℕ) → last ≡ R ++ drop r (take (length out - a) (drop a out))
-    → putMid a (length out - a) out last ≡ take a out ++ (R ++ drop (a + r) out)
-put-part out R last a r hl =
-    let all : take (length out - a) (drop a out) ≡ drop a out = take-all (length out - a) (drop a out) (simp length-drop (omega arith)) in
-    let none : drop (length out - a) (drop a out) ≡ [] = drop-of-length-le (drop a out) {i = length out - a} (simp length-drop (omega arith)) in
-    let l : last ≡ R ++ drop (a + r) out = hl ∙ ap (λ x. R ++ drop r x) all ∙ ap (λ x. R ++ x) (drop-drop r a out) in
-    simp (none, l, append-nil)
 
 -- a line has at most 92 bytes
 pub lines-most : (r : ℕ) (axis : List ℕ) (y : List Float) (es : List ℕ) → length (linesOf r axis y es) ≤ length es * 92

@@ -1,2 +1,3 @@
 -- The definitions that the contracts of `peaklines` cite.
 pub mod RowLines
+pub mod TableText

@@ -7,16 +7,21 @@ use record::ImPeak1D;
 use row::inner::Listing;
 use row::inner::Search;
 use row::inner::Step;
+use table::Progress;
+use table::RowsSoFar;
+use table::Verdict;
 ghost use mathlib.Core.Path.{_≡_};
 ghost use mathlib.Core.List.{_++_};
-ghost use Prim.Native.Nat.{_≤_, _+_};
+ghost use Prim.Native.Nat.{_≤_, _+_, _-_};
 ghost use lib.ListN.{length, take, drop};
 ghost use Rattle.apex.specs.Apex.{Ground};
 ghost use Rattle.baselines.specs.Baselines.{Baselines};
 ghost use Rattle.row.specs.Steps.{Part, FilledUp};
 ghost use Rattle.row.specs.declared.inner.Listing.the-variants.{All};
 ghost use Rattle.table.specs.Print.{peakLine};
+ghost use Rattle.table.specs.Table.{verdict};
 ghost use Rattle.peaklines.specs.RowLines.{placeOf, noFrames, rowLines, Ready, Printed};
+ghost use Rattle.peaklines.specs.TableText.{scans, peaksText, textOf, lineText, Counted, Sound};
 
 fn place_of(tof_row: u32) -> RowPlace
     ensures { λ r. ⌜ r ≡ placeOf «tof_row» ⌝ }
@@ -134,5 +139,60 @@ pub fn put_row_lines(
     match l {
         Listing::All(n) => n,
         Listing::Deep(n, t) => put_lines_deep(y, ground, tof_row, p, axis, t, n, out),
+    }
+}
+
+// The scans of a row, which count from 0.
+pub fn count_up(axis: &mut [u32])
+    requires { ⌜ length (now axis) ≤ 4096 ⌝ }
+    ensures { λ _. ⌜ now (axis .exit) ≡ scans (length (now (axis .entry))) ⌝ }
+{
+    for i in 0..axis.len() {
+        axis[i] = i as u32;
+    }
+}
+
+// Writes the lines of the peaks of an accepted row, whose readings stand at the front of `row`.
+fn put_row(s: RowsSoFar, row: &[f32], axis: &[u32], out: &mut [u8]) -> usize
+    requires { ⌜ Counted s × (4096 ≤ length (now row)) × (now axis ≡ scans 4096) × (188420 ≤ length (now out)) ⌝ }
+    ensures count { λ r. ⌜ r ≡ length (peaksText (s .params) (s .rows - 1) (take (s .count) (now (row .entry)))) ⌝ }
+    ensures front { λ r. ⌜ now (out .exit) ≡ peaksText (s .params) (s .rows - 1) (take (s .count) (now (row .entry))) ++ drop r (now (out .entry)) ⌝ }
+{
+    let n = s.count;
+    put_row_lines(&row[..n], s.rows - 1, s.params, &axis[..n], out)
+}
+
+// Writes what is printed for a line with a verdict to the front of `out` and answers how many bytes that are.
+fn put_text(v: Verdict, row: &[f32], axis: &[u32], out: &mut [u8]) -> usize
+    requires { ⌜ Sound v × (4096 ≤ length (now row)) × (now axis ≡ scans 4096) × (188420 ≤ length (now out)) ⌝ }
+    ensures count { λ r. ⌜ r ≡ length (textOf (now (row .entry)) v) ⌝ }
+    ensures front { λ r. ⌜ now (out .exit) ≡ textOf (now (row .entry)) v ++ drop r (now (out .entry)) ⌝ }
+{
+    match v {
+        Verdict::Heading(_) => table::inner::put_heading(out),
+        Verdict::Row(s) => put_row(s, row, axis, out),
+        Verdict::Refused => table::inner::put_refusal(out),
+    }
+}
+
+// What a line is answered with, and how many bytes are printed for it.
+pub struct LineDone {
+    pub verdict: Verdict,
+    pub used: usize,
+}
+
+// Writes what is printed for the next line, given without its CR LF, to the front of `out`. Of `row` the first 4,096 places may
+// have been written.
+pub fn put_line(s: Progress, line: &[u8], row: &mut [f32], axis: &[u32], out: &mut [u8]) -> LineDone
+    requires { ⌜ (4096 ≤ length (now row)) × (now axis ≡ scans 4096) × (188420 ≤ length (now out)) ⌝ }
+    ensures verdict { λ r. ⌜ r .verdict ≡ verdict s (now (line .entry)) ⌝ }
+    ensures count { λ r. ⌜ r .used ≡ length (lineText (now (line .entry)) (r .verdict)) ⌝ }
+    ensures room { λ r. ⌜ r .used ≤ length (now (out .entry)) ⌝ }
+    ensures front { λ r. ⌜ now (out .exit) ≡ lineText (now (line .entry)) (r .verdict) ++ drop (r .used) (now (out .entry)) ⌝ }
+{
+    let v = table::inner::accept(s, line, row);
+    LineDone {
+        verdict: v,
+        used: put_text(v, row, axis, out),
     }
 }

@@ -4,11 +4,11 @@ use libc::STDERR_FILENO;
 use libc::STDOUT_FILENO;
 use table::LineEnd;
 use table::Progress;
-use table::RowsSoFar;
 use table::Verdict;
 ghost use mathlib.Core.Path.{_≡_};
 ghost use Prim.Native.Nat.{_≤_, _<_};
 ghost use lib.ListN.{length};
+ghost use Rattle.peaklines.specs.TableText.{scans};
 
 // How far the table has come: what has been accepted, how many bytes of text wait to be written, and whether to go on.
 struct Job {
@@ -47,43 +47,9 @@ fn cleared(out: &[u8], waiting: usize) -> Waiting
     }
 }
 
-// The text of a row's peaks, behind what waits.
-fn row_text(t: RowsSoFar, row: &[f32], axis: &[u32], out: &mut [u8], waiting: usize) -> usize
-    requires { ⌜ (4096 ≤ length (now row)) × (4096 ≤ length (now axis)) × (262144 ≤ length (now out)) × (waiting ≤ 65536) ⌝ }
-    ensures { λ r. ⌜ r ≤ length (now (out .entry)) ⌝ }
-{
-    let n = t.count;
-    let rows = t.rows;
-    if n > 4096 {
-        return waiting;
-    }
-    if 0 < rows {
-        let used = peaklines::inner::put_row_lines(
-            &row[..n],
-            rows - 1,
-            t.params,
-            &axis[..n],
-            &mut out[waiting..],
-        );
-        return behind(out, waiting, used);
-    }
-    waiting
-}
-
-fn behind(out: &[u8], waiting: usize, used: usize) -> usize
-    requires { ⌜ waiting ≤ length (now out) ⌝ }
-    ensures { λ r. ⌜ r ≤ length (now (out .entry)) ⌝ }
-{
-    if used <= out.len() - waiting {
-        waiting + used
-    } else {
-        out.len()
-    }
-}
-
 // One line more, given without its end.
 fn line_text(job: Job, line: &[u8], row: &mut [f32], axis: &[u32], out: &mut [u8]) -> Job
-    requires { ⌜ (4096 ≤ length (now row)) × (4096 ≤ length (now axis)) × (262144 ≤ length (now out)) × (job .waiting ≤ length (now out)) ⌝ }
+    requires { ⌜ (4096 ≤ length (now row)) × (now axis ≡ scans 4096) × (262144 ≤ length (now out)) × (job .waiting ≤ length (now out)) ⌝ }
     ensures { λ r. ⌜ r .waiting ≤ length (now (out .entry)) ⌝ }
 {
     let progress = job.progress;
@@ -96,29 +62,31 @@ fn line_text(job: Job, line: &[u8], row: &mut [f32], axis: &[u32], out: &mut [u8
             goes_on: false,
         };
     }
-    let verdict = table::inner::accept(progress, line, row);
+    let p = peaklines::inner::put_line(progress, line, row, axis, &mut out[waiting..]);
+    let verdict = p.verdict;
+    after(progress, verdict, waiting + p.used)
+}
+
+// The job after a line with a verdict.
+fn after(progress: Progress, verdict: Verdict, waiting: usize) -> Job
+    ensures { λ r. ⌜ r .waiting ≡ waiting ⌝ }
+{
     match verdict {
-        Verdict::Heading(t) => {
-            let used = table::inner::put_heading(&mut out[waiting..]);
-            Job {
-                progress: Progress::Rows(t),
-                waiting: behind(out, waiting, used),
-                goes_on: true,
-            }
-        }
-        Verdict::Row(t) => Job {
-            progress: Progress::Rows(t),
-            waiting: row_text(t, row, axis, out, waiting),
+        Verdict::Heading(s) => Job {
+            progress: Progress::Rows(s),
+            waiting,
             goes_on: true,
         },
-        Verdict::Refused => {
-            let used = table::inner::put_refusal(&mut out[waiting..]);
-            Job {
-                progress,
-                waiting: behind(out, waiting, used),
-                goes_on: false,
-            }
-        }
+        Verdict::Row(s) => Job {
+            progress: Progress::Rows(s),
+            waiting,
+            goes_on: true,
+        },
+        Verdict::Refused => Job {
+            progress,
+            waiting,
+            goes_on: false,
+        },
     }
 }
 
@@ -133,7 +101,7 @@ fn refused(job: Job, out: &mut [u8]) -> Job
     let used = table::inner::put_refusal(&mut out[waiting..]);
     Job {
         progress,
-        waiting: behind(out, waiting, used),
+        waiting: waiting + used,
         goes_on: false,
     }
 }
@@ -145,7 +113,7 @@ struct Read {
 }
 
 fn whole_lines(job: Job, bytes: &[u8], row: &mut [f32], axis: &[u32], out: &mut [u8]) -> Read
-    requires { ⌜ (4096 ≤ length (now row)) × (4096 ≤ length (now axis)) × (262144 ≤ length (now out)) × (job .waiting ≤ length (now out)) ⌝ }
+    requires { ⌜ (4096 ≤ length (now row)) × (now axis ≡ scans 4096) × (262144 ≤ length (now out)) × (job .waiting ≤ length (now out)) ⌝ }
     ensures { λ r. ⌜ (r .job .waiting ≤ length (now (out .entry))) × (r .from ≤ length (now (bytes .entry))) ⌝ }
 {
     let mut j = job;
@@ -173,7 +141,7 @@ fn whole_lines(job: Job, bytes: &[u8], row: &mut [f32], axis: &[u32], out: &mut 
 
 // A line that ends in LF; the byte before it must be CR.
 fn ended_line(job: Job, text: &[u8], row: &mut [f32], axis: &[u32], out: &mut [u8]) -> Job
-    requires { ⌜ (4096 ≤ length (now row)) × (4096 ≤ length (now axis)) × (262144 ≤ length (now out)) × (job .waiting ≤ length (now out)) ⌝ }
+    requires { ⌜ (4096 ≤ length (now row)) × (now axis ≡ scans 4096) × (262144 ≤ length (now out)) × (job .waiting ≤ length (now out)) ⌝ }
     ensures { λ r. ⌜ r .waiting ≤ length (now (out .entry)) ⌝ }
 {
     if table::ends_in_cr(text) {
@@ -187,7 +155,7 @@ fn ended_line(job: Job, text: &[u8], row: &mut [f32], axis: &[u32], out: &mut [u
 
 // The input's last line, which may lack its end; where there was no line at all, a refusal.
 fn last_line(job: Job, bytes: &[u8], row: &mut [f32], axis: &[u32], out: &mut [u8]) -> Job
-    requires { ⌜ (4096 ≤ length (now row)) × (4096 ≤ length (now axis)) × (262144 ≤ length (now out)) × (job .waiting ≤ length (now out)) ⌝ }
+    requires { ⌜ (4096 ≤ length (now row)) × (now axis ≡ scans 4096) × (262144 ≤ length (now out)) × (job .waiting ≤ length (now out)) ⌝ }
     ensures { λ r. ⌜ r .waiting ≤ length (now (out .entry)) ⌝ }
 {
     if 0 < bytes.len() {
@@ -257,7 +225,7 @@ fn after_bytes(
     axis: &[u32],
     out: &mut [u8],
 ) -> Turn
-    requires { ⌜ (have ≤ length (now buf)) × (4096 ≤ length (now row)) × (4096 ≤ length (now axis)) × (262144 ≤ length (now out)) × (job .waiting ≤ length (now out)) ⌝ }
+    requires { ⌜ (have ≤ length (now buf)) × (4096 ≤ length (now row)) × (now axis ≡ scans 4096) × (262144 ≤ length (now out)) × (job .waiting ≤ length (now out)) ⌝ }
     ensures { λ r. ⌜ (r .job .waiting ≤ length (now (out .entry))) × (r .have ≤ length (now (buf .entry))) ⌝ }
 {
     let read = whole_lines(job, &buf[..have], row, axis, out);
@@ -288,7 +256,7 @@ fn next_turn(
     axis: &[u32],
     out: &mut [u8],
 ) -> Turn
-    requires { ⌜ (have ≤ length (now buf)) × (4096 ≤ length (now row)) × (4096 ≤ length (now axis)) × (262144 ≤ length (now out)) × (job .waiting ≤ length (now out)) ⌝ }
+    requires { ⌜ (have ≤ length (now buf)) × (4096 ≤ length (now row)) × (now axis ≡ scans 4096) × (262144 ≤ length (now out)) × (job .waiting ≤ length (now out)) ⌝ }
     ensures { λ r. ⌜ (r .job .waiting ≤ length (now (out .entry))) × (r .have ≤ length (now (buf .entry))) ⌝ }
 {
     let more = more_bytes(buf, have);
@@ -308,7 +276,7 @@ fn next_turn(
 }
 
 fn read_all(buf: &mut [u8], row: &mut [f32], axis: &[u32], out: &mut [u8])
-    requires { ⌜ (4096 ≤ length (now row)) × (4096 ≤ length (now axis)) × (262144 ≤ length (now out)) ⌝ }
+    requires { ⌜ (4096 ≤ length (now row)) × (now axis ≡ scans 4096) × (262144 ≤ length (now out)) ⌝ }
 {
     let mut job = Job {
         progress: Progress::Start,
@@ -330,20 +298,11 @@ fn read_all(buf: &mut [u8], row: &mut [f32], axis: &[u32], out: &mut [u8])
     written(out, job.waiting);
 }
 
-// Scans count from 0.
-fn count_up(axis: &mut [u32])
-    requires { ⌜ length (now axis) ≤ 4096 ⌝ }
-{
-    for i in 0..axis.len() {
-        axis[i] = i as u32;
-    }
-}
-
 fn main() {
     let mut buf = io::large_buffer();
     let mut row = [0f32; 4096];
     let mut axis = [0u32; 4096];
     let mut out = [0u8; 262144];
-    count_up(&mut axis);
+    peaklines::inner::count_up(&mut axis);
     read_all(&mut buf, &mut row, &axis, &mut out);
 }

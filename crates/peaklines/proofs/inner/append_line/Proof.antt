@@ -1,6 +1,6 @@
 use Rattle.table.specs.Print.{peakLine}
 use Rattle.table.specs.Facts.{line-most}
-use Rattle.peaklines.proofs.Laws.{put-part}
+use Rattle.record.proofs.Laws.{put-part}
 use mathlib.Core.Path.{ap}
 use Prim.Native.Nat.{ℕ, _+_}
 use native.Mathlib.Omega.{arith}

@@ -1,0 +1,92 @@
+-- Laws of scans that count up, and of the text of a line. Assumes nothing.
+use mathlib.Core.Path.{_≡_, refl, sym, ap, _∙_}
+use mathlib.Core.Bool.{Bool, true, false, cond, _&&_}
+use mathlib.Core.List.{List, [], _∷_, _++_, append-nil}
+use Prim.Native.Nat.{ℕ, zero, suc, _≤_, _<_, _+_, _-_}
+use native.Mathlib.Omega.{arith}
+use native.Mathlib.Numerals.{add-one}
+use borrow.Author.Tests.{leb-true, leb-false}
+use lib.Dec.{leb}
+use lib.ListN.{length, take, drop, set, length-append, length-map, length-drop, drop-of-length-le}
+use lib.Seq.{take-all, take-append-le, take-at, length-take-le}
+use lib.Ieee.{Float}
+use Rattle.numeric.specs.Arith.{indexF}
+use Rattle.numeric.proofs.Laws.{clash}
+use Rattle.table.specs.declared.Progress.{Progress}
+use Rattle.table.specs.declared.RowsSoFar.{RowsSoFar}
+use Rattle.table.specs.declared.Verdict.{Verdict}
+use Rattle.table.specs.declared.RowText.{RowText}
+use Rattle.table.specs.Text.{fields, value, allNumbers, readings, isRow, rowText, paramsOf}
+use Rattle.table.specs.Table.{verdict, isNext, counted}
+use Rattle.table.proofs.Laws.{push, row-counted, row-text, never-row}
+use Rattle.peaklines.specs.TableText.{scans, lineText, textOf, peaksText, Counted}
+
+-- ---- scans
+pub scans-length : (n : ℕ) → length (scans n) ≡ n
+unfolding scans
+scans-length zero = refl
+scans-length (suc n) = rw (length-append, scans-length n) (omega arith)
+
+pub scans-step : (n : ℕ) (d : List ℕ) → n < length d → set (scans n ++ drop n d) n n ≡ scans (n + 1) ++ drop (n + 1) d
+unfolding scans
+scans-step n d h = push (scans n) d n n (scans-length n) h ∙ rw (add-one n)
+
+pub scans-none : (d : List ℕ) → d ≡ scans 0 ++ drop 0 d
+unfolding scans
+scans-none d = refl
+
+pub scans-all : (n : ℕ) (d : List ℕ) → n ≤ length d → length d ≤ n → scans n ++ drop n d ≡ scans (length d)
+scans-all n d h k = let e : n ≡ length d = omega arith in rw (drop-of-length-le d k, append-nil) (ap scans e)
+
+pub scans-take : (n m : ℕ) → n ≤ m → take n (scans m) ≡ scans n
+unfolding scans
+scans-take n zero h = let e : n ≡ 0 = omega arith in rw e
+scans-take n (suc m) h = go (leb n m) refl (scans-take n m)
+  where
+    go : (b : Bool) → leb n m ≡ b → (n ≤ m → take n (scans m) ≡ scans n) → take n (scans m ++ (m ∷ [])) ≡ scans n
+    go true e r = let k = leb-true n m e in take-append-le n (scans m) (m ∷ []) (rw (scans-length m) k) ∙ r k
+    go false e r =
+        let k : n ≡ suc m = omega (arith, leb-false n m e) in
+        take-all n (scans m ++ (m ∷ [])) (rw (length-append, scans-length m) (omega arith)) ∙ rw k
+
+-- the scans of the first samples of a row
+pub scans-of : (axis : List ℕ) (row : List Float) (n : ℕ) → axis ≡ scans 4096 → n ≤ 4096 → n ≤ length row → take n axis ≡ scans (length (take n row))
+scans-of axis row n e h k = ap (take n) e ∙ scans-take n 4096 h ∙ ap scans (sym (length-take-le n row k))
+
+pub axis-length : (axis : List ℕ) → axis ≡ scans 4096 → length axis ≡ 4096
+axis-length axis e = ap length e ∙ scans-length 4096
+
+-- ---- verdicts
+first-row : (s t : RowsSoFar) (x : RowText) → counted s x ≡ Verdict.Row t → 1 ≤ t .rows
+first-row s t RowText.Bad e = let z : _≡_ {A = ℕ} 0 1 = cc in absurd (omega arith)
+first-row s t (RowText.Row n) e = go (isNext s n) e
+  where
+    go : (b : Bool) → cond b (Verdict.Row (record { params = s .params; count = n; rows = s .rows + 1 })) Verdict.Refused ≡ Verdict.Row t → 1 ≤ t .rows
+    go true e = let k : s .rows + 1 ≡ t .rows = cc in omega arith
+    go false e = let z : _≡_ {A = ℕ} 0 1 = cc in absurd (omega arith)
+
+and-right : (a b : Bool) → (a && b) ≡ true → b ≡ true
+and-right true b h = h
+and-right false b h = clash false h refl
+
+-- an accepted row: at most 4,096 readings, and as many as are counted
+pub row-verdict : (s : Progress) (line : List ℕ) (t : RowsSoFar) → verdict s line ≡ Verdict.Row t → Counted t × (length (readings line) ≡ t .count)
+unfolding verdict isRow readings
+row-verdict Progress.Start line t e = absurd (never-row (paramsOf line) t e)
+row-verdict (Progress.Rows s) line t e =
+    let r = row-text line (t .count) (row-counted s t (rowText line) e) in
+    let m = leb-true (length (fields line)) 4096 (and-right (allNumbers 16777215 (fields line)) (leb (length (fields line)) 4096) (r .0)) in
+    (record { first = first-row s t (rowText line) e; most = omega (arith, r .1) }, length-map (fields line) (λ f. indexF (value f)) ∙ r .1)
+
+pub line-text : (s : Progress) (line : List ℕ) (row row₀ : List Float) (v : Verdict) → v ≡ verdict s line
+    → ((t : RowsSoFar) → v ≡ Verdict.Row t → row ≡ readings line ++ drop (t .count) row₀) → textOf row v ≡ lineText line v
+line-text s line row row₀ (Verdict.Heading t) e f = refl
+line-text s line row row₀ (Verdict.Row t) e f =
+    let k = row-verdict s line t (sym e) in
+    ap (peaksText (t .params) (t .rows - 1)) (ap (take (t .count)) (f t refl) ∙ take-at (readings line) (drop (t .count) row₀) (t .count) (k .1))
+line-text s line row row₀ Verdict.Refused e f = refl
+
+-- a text at the front of a buffer is not longer than the buffer
+pub text-fits : (x out last : List ℕ) (k : ℕ) → k ≡ length x → last ≡ x ++ drop k out → length last ≡ length out → k ≤ length out
+text-fits x out last k e l h =
+    let m : length last ≡ length x + (length out - k) = ap length l ∙ simp (length-append, length-drop) in omega arith

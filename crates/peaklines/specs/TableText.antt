@@ -1,0 +1,65 @@
+-- The text of the table: what is printed for each line that is read. Scans count from 0.
+use mathlib.Core.Path.{_≡_, refl, sym}
+use mathlib.Core.List.{List, [], _∷_, _++_, append-nil}
+use Prim.Native.Nat.{ℕ, zero, suc, _-_, _≤_}
+use lib.ListN.{length, take}
+use lib.Ieee.{Float}
+use Rattle.params.specs.declared.ImDetectParams.{ImDetectParams}
+use Rattle.table.specs.declared.Progress.{Progress}
+use Rattle.table.specs.declared.RowsSoFar.{RowsSoFar}
+use Rattle.table.specs.declared.Verdict.{Verdict}
+use Rattle.table.specs.Print.{heading, refusal}
+use Rattle.table.specs.Text.{readings}
+use Rattle.table.specs.Table.{verdict, atLine, printedFrom, table}
+use Rattle.peaklines.specs.RowLines.{rowLines}
+
+-- the scans of n samples
+unfoldable pub scans : ℕ → List ℕ
+scans zero = []
+scans (suc n) = scans n ++ (n ∷ [])
+
+-- the lines of the peaks that the parameters p find in row k, whose readings are y
+abbrev pub peaksText : ImDetectParams → ℕ → List Float → List ℕ
+peaksText p k y = rowLines p k (scans (length y)) y
+
+-- The table that is printed for bytes.
+abbrev pub tableText : List ℕ → List ℕ
+tableText bytes = table peaksText bytes
+
+-- what is printed for a line with a verdict
+abbrev pub lineText : List ℕ → Verdict → List ℕ
+lineText line (Verdict.Heading s) = heading
+lineText line (Verdict.Row s) = peaksText (s .params) (s .rows - 1) (readings line)
+lineText line Verdict.Refused = refusal
+
+-- the same, where the readings of an accepted row stand at the front of `row`
+abbrev pub textOf : List Float → Verdict → List ℕ
+textOf row (Verdict.Heading s) = heading
+textOf row (Verdict.Row s) = peaksText (s .params) (s .rows - 1) (take (s .count) row)
+textOf row Verdict.Refused = refusal
+
+-- an accepted row is one of at most 4,096 samples, and counted
+pub record Counted (s : RowsSoFar) : Type 0 where
+  pub first : 1 ≤ s .rows
+  pub most : s .count ≤ 4096
+
+abbrev pub Sound : Verdict → Type 0
+Sound v = (s : RowsSoFar) → v ≡ Verdict.Row s → Counted s
+
+-- ---- the table is what its lines give, one after another, as far as the first refusal
+
+-- what comes behind a line with a verdict
+abbrev pub behindLine : Verdict → List (List ℕ) → List ℕ
+behindLine (Verdict.Heading s) more = printedFrom peaksText (Progress.Rows s) more
+behindLine (Verdict.Row s) more = printedFrom peaksText (Progress.Rows s) more
+behindLine Verdict.Refused more = []
+
+pub line-by-line : (s : Progress) (line : List ℕ) (more : List (List ℕ))
+    → printedFrom peaksText s (line ∷ more) ≡ lineText line (verdict s line) ++ behindLine (verdict s line) more
+unfolding printedFrom
+line-by-line s line more = go (verdict s line)
+  where
+    go : (v : Verdict) → atLine peaksText line v (λ t. printedFrom peaksText t more) ≡ lineText line v ++ behindLine v more
+    go (Verdict.Heading t) = refl
+    go (Verdict.Row t) = refl
+    go Verdict.Refused = sym (append-nil refusal)
