@@ -1,0 +1,2 @@
+-- What the proofs of `merging` share.
+pub mod Laws

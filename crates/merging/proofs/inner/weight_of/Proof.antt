@@ -1,0 +1,14 @@
+use Rattle.merging.specs.Merging.{weight}
+use borrow.Author.Needs.{needs}
+use Rattle.merging.proofs.inner.weight_of.Statement.{statement}
+use Rattle.merging.proofs.inner.weight_of.Tie as tie
+
+max-requires : tie.Need-max-requires
+max-requires c κs = search needs
+
+returns : tie.Need-returns
+unfolding weight
+returns c = c .max .ensures
+
+pub weight-of-spec : {M : Type 1} → statement M
+weight-of-spec = tie.close (tie.spec max-requires returns)
