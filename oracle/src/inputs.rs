@@ -66,8 +66,26 @@ pub fn reading(r: &mut Rng, kind: u64) -> f32 {
     }
 }
 
-/// A row of n accepted readings, of one kind or mixed.
+/// A row of n samples whose apexes see far: flights of teeth that rise or fall, or teeth of one height, above a ground that no
+/// sample or few reach.
+fn flights(r: &mut Rng, n: usize) -> Vec<f32> {
+    let (tooth, flight) = (1 + r.below(4), 1 + r.below(n as u64));
+    let slope = r.pick(&[-1i64, 0, 1]);
+    let mut level = n as i64 + 5;
+    (0..n)
+        .map(|i| {
+            level += if i as u64 % flight == 0 { r.below(9) as i64 - 4 } else { slope * (i as i64 % 2) };
+            let up = if i % 2 == 1 { tooth as i64 } else { 0 };
+            if r.one_in(500) { 0.0 } else { (level.max(1) + up) as f32 }
+        })
+        .collect()
+}
+
+/// A row of n accepted readings, of one kind or mixed; long ones at times of teeth in flights.
 pub fn row(r: &mut Rng, n: usize) -> Vec<f32> {
+    if n > 60 && r.one_in(2) {
+        return flights(r, n);
+    }
     let kind = r.below(11);
     (0..n)
         .map(|_| {
