@@ -18,7 +18,7 @@ use Rattle.numeric.proofs.Laws.{clash}
 use Rattle.numeric.proofs.Order.{lt-no-nan, lt-not-le, not-lt, lt-trans, lt-le-trans}
 use Rattle.rounding.specs.Rounding.{floorF, ceilF, roundF}
 use Rattle.area.specs.Area.{areaF}
-use Rattle.apex.specs.Apex.{isCandidate, candidatesTo, prominence, halfHeight, riseOf, leftCrossing, rightCrossing}
+use Rattle.apex.specs.Apex.{isCandidate, candidatesTo, baseline, prominence, halfHeight, riseOf, leftCrossing, rightCrossing}
 use Rattle.apex.specs.declared.inner.Rise.{Rise}
 use Rattle.record.specs.declared.ImPeak1D.{ImPeak1D}
 use Rattle.record.specs.Record.{size, wordsOf, withPeak}
@@ -32,10 +32,12 @@ use Rattle.row.specs.Row.{highest, mobilityAt, mobilityFlag, groupFlag, 
 use Rattle.row.specs.RowNumber.{sameLengths, soundReadings, soundValues, soundAxis, rowNumber}
 use Rattle.row.specs.Suppression.{keep, keepAll}
 use Rattle.row.specs.RowLaws.{keptTo, kept-step, kept-to-count, row-words-length}
-use Rattle.row.specs.Steps.{Ready, Inside, measuredOf, judged, foundAt, Lacking, Looks, turnOf, Placed, Stands, Starts, toGo, Answered, Stopped, After, Goes, Listed, Begun, Lists}
+use Rattle.row.specs.Steps.{Ready, Inside, measuredOf, judged, foundAt, Lacking, BaseOf, Looks, turnOf, Placed, Stands, Starts, toGo, Answered, Stopped, After, Goes, Listed, Begun, Lists}
 use Rattle.row.specs.declared.inner.Measured.{Measured}
 use Rattle.row.specs.declared.inner.Found.{Found}
 use Rattle.row.specs.declared.inner.Found.the-variants.{Apex, Nothing}
+use Rattle.row.specs.declared.inner.Base.{Base}
+use Rattle.row.specs.declared.inner.Base.the-variants as base
 use Rattle.row.specs.declared.inner.Look.{Look}
 use Rattle.row.specs.declared.inner.Look.the-variants as look
 use Rattle.row.specs.declared.inner.Turn.the-variants.{Hold, Pass, Settle}
@@ -250,13 +252,24 @@ found-nothing p y (suc k) h e = rw sub-one (go (isCandidate y (suc k)) (qualifie
     go true false g s = s
     go false c g s = s
 
--- what a look at the sample i says
+-- what the search for a baseline says, and a look at the sample i
+module _ (y : List Float) (b i : ℕ) (r : Base) (is : BaseOf y b i r) where
+  pub base-is : (v : Float) (budget : ℕ) → r ≡ base.At v budget → v ≡ baseline y i
+  base-is v budget e = subst (BaseOf y b i) e is
+
+  pub base-lacks : r ≡ base.Deep → Lacking b y
+  base-lacks e = subst (BaseOf y b i) e is
+
 module _ (p : ImDetectParams) (y : List Float) (b i : ℕ) (r : Look) (looks : Looks p y b i r) where
   pub look-found : (f : Found) (budget : ℕ) → r ≡ look.At f budget → f ≡ foundAt p y i
   look-found f budget e = subst (Looks p y b i) e looks
 
   pub look-lacks : r ≡ look.Deep → Lacking b y
   look-lacks e = subst (Looks p y b i) e looks
+
+pub no-candidate : (p : ImDetectParams) (y : List Float) (i : ℕ) → isCandidate y i ≡ false → foundAt p y i ≡ Nothing
+unfolding foundAt
+no-candidate p y i h = rw h
 
 -- what becomes of an apex that qualifies, where `last` is held over es, or none is held and none was kept
 module _ (d : ℕ) (y : List Float) (last i : ℕ) (ks es : List ℕ) where

@@ -9,7 +9,7 @@ use lib.Dec.{ltb}
 use lib.ListN.{length, drop}
 use lib.Ieee.{Float, le}
 use Rattle.numeric.specs.Arith.{at}
-use Rattle.apex.specs.Apex.{isCandidate, prominence}
+use Rattle.apex.specs.Apex.{isCandidate, baseline, prominence}
 use Rattle.record.specs.Record.{size}
 use Rattle.params.specs.Params.{mostPeaks}
 use Rattle.params.specs.declared.ImDetectParams.{ImDetectParams}
@@ -19,6 +19,8 @@ use Rattle.row.specs.Row.{leftX, rightX, width, qualifies, rowWords}
 use Rattle.row.specs.declared.inner.Measured.{Measured}
 use Rattle.row.specs.declared.inner.Found.{Found}
 use Rattle.row.specs.declared.inner.Found.the-variants.{Apex, Nothing}
+use Rattle.row.specs.declared.inner.Base.{Base}
+use Rattle.row.specs.declared.inner.Base.the-variants as base
 use Rattle.row.specs.declared.inner.Look.{Look}
 use Rattle.row.specs.declared.inner.Look.the-variants as look
 use Rattle.row.specs.declared.inner.Turn.{Turn}
@@ -56,7 +58,12 @@ pub record Lacking (b : ℕ) (y : List Float) : Type 0 where
   pub some : b < length y
   pub short : length y ≤ 16384
 
--- what is seen of the sample at i, by a list of b baselines and by walks: what is found there, or that baselines are lacking
+-- the baseline of the candidate at i, by a list of b baselines and by walks; or that baselines are lacking
+abbrev pub BaseOf : List Float → ℕ → ℕ → Base → Type 0
+BaseOf y b i (base.At v budget) = v ≡ baseline y i
+BaseOf y b i base.Deep = Lacking b y
+
+-- the same of what is found at i
 abbrev pub Looks : ImDetectParams → List Float → ℕ → ℕ → Look → Type 0
 Looks p y b i (look.At f budget) = f ≡ foundAt p y i
 Looks p y b i look.Deep = Lacking b y

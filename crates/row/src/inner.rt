@@ -15,10 +15,13 @@ ghost use Rattle.record.specs.Record.{size};
 ghost use Rattle.row.specs.Row.{highest, reaches, subscan, scanAt, mobilityAt, groupFlag, groupWord, mobilityFlag, peakOf, kept, rowWords};
 ghost use Rattle.apex.specs.Apex.{Ground, isCandidate, baseline};
 ghost use Rattle.baselines.specs.Baselines.{Baselines};
-ghost use Rattle.row.specs.Steps.{Inside, Ready, judged, foundAt, Looks, turnOf, Placed, Starts, Goes, Listed, Part, FilledUp};
+ghost use Rattle.row.specs.Steps.{Inside, Ready, judged, BaseOf, Looks, turnOf, Placed, Starts, Goes, Listed, Part, FilledUp};
 ghost use Rattle.row.specs.declared.inner.Listing.the-variants.{All};
 
-// How many samples a search may walk over for each sample of the row before the baselines are filled instead.
+// How many samples a search may walk over before the baselines are filled instead: so many, and so many more for each sample of
+// the row.
+const WALKED: usize = 8192;
+
 const WALKS: usize = 16;
 
 // What is measured of an apex.
@@ -35,7 +38,13 @@ pub enum Found {
     Nothing,
 }
 
-// What is found at a sample, and how many samples may still be walked over; or that none may, and the walk is due.
+// The baseline of a candidate, and how many samples may still be walked over; or that none may, and a walk is due.
+pub enum Base {
+    At(f32, usize),
+    Deep,
+}
+
+// The same of what is found at it.
 pub enum Look {
     At(Found, usize),
     Deep,
@@ -114,9 +123,26 @@ fn after_walk(budget: usize, steps: usize) -> usize
     if steps < budget { budget - steps } else { 0 }
 }
 
-// The candidate at i. Its baseline is in the list, or a walk finds it; a row of at most 16,384 samples, which can have its
-// baselines filled, is walked over only as far as the budget goes.
-fn measure_candidate(
+// The baseline of the candidate at i: it is in the list, or a walk finds it. A row of at most 16,384 samples, which can have
+// its baselines filled, is walked over only as far as the budget goes.
+fn base_at(y: &[f32], ground: f32, bases: &[f32], i: usize, budget: usize) -> Base
+    requires { ⌜ (i + 1 < length (now y)) × Ground ground (now y) × Baselines (now y) (now bases) × (isCandidate (now y) i ≡ true) ⌝ }
+    ensures { λ r. ⌜ BaseOf (now (y .entry)) (length (now (bases .entry))) i r ⌝ }
+{
+    if i < bases.len() {
+        return Base::At(bases[i], budget);
+    }
+    if budget == 0 {
+        if y.len() <= 16384 {
+            return Base::Deep;
+        }
+    }
+    let low = apex::inner::walk_of(y, ground, i);
+    Base::At(low.height, after_walk(budget, low.steps))
+}
+
+// The candidate at i, if it qualifies.
+fn measure(
     y: &[f32],
     ground: f32,
     bases: &[f32],
@@ -127,34 +153,11 @@ fn measure_candidate(
     requires { ⌜ (i + 1 < length (now y)) × (length (now y) ≤ 16777216) × Ground ground (now y) × Baselines (now y) (now bases) × (isCandidate (now y) i ≡ true) ⌝ }
     ensures { λ r. ⌜ Looks p (now (y .entry)) (length (now (bases .entry))) i r ⌝ }
 {
-    if i < bases.len() {
-        return Look::At(judge(y, bases[i], p, i), budget);
-    }
-    if budget == 0 {
-        if y.len() <= 16384 {
-            return Look::Deep;
-        }
-    }
-    let low = apex::inner::walk_of(y, ground, i);
-    Look::At(judge(y, low.height, p, i), after_walk(budget, low.steps))
-}
-
-// The apex at i, if there is one that qualifies.
-fn measure(
-    y: &[f32],
-    ground: f32,
-    bases: &[f32],
-    p: ImDetectParams,
-    i: usize,
-    budget: usize,
-) -> Look
-    requires { ⌜ (0 < i) × (i + 1 < length (now y)) × (length (now y) ≤ 16777216) × Ground ground (now y) × Baselines (now y) (now bases) ⌝ }
-    ensures { λ r. ⌜ Looks p (now (y .entry)) (length (now (bases .entry))) i r ⌝ }
-{
-    if apex::inner::is_candidate(y, i) {
-        return measure_candidate(y, ground, bases, p, i, budget);
-    }
-    Look::At(Found::Nothing, budget)
+    let found = base_at(y, ground, bases, i, budget);
+    let Base::At(base, left) = found else {
+        return Look::Deep;
+    };
+    Look::At(judge(y, base, p, i), left)
 }
 
 // What becomes of the apex at i, where `last` is the held one, if there is any.
@@ -189,11 +192,12 @@ pub fn search_start(n: usize) -> Search
             right_x: 0.0,
             width: 0,
         },
-        budget: WALKS * n,
+        budget: WALKED + WALKS * n,
     }
 }
 
-// The next apex that is kept: the held one, once an apex far enough from it qualifies or the row ends.
+// The next apex that is kept: the held one, once an apex far enough from it qualifies or the row ends. The search stops before a
+// walk that the budget has nothing left for; with a baseline for each sample none is due.
 pub fn next_peak(y: &[f32], ground: f32, bases: &[f32], p: ImDetectParams, s: Search) -> Step
     requires { ⌜ (length (now y) ≤ 16777216) × Ground ground (now y) × Baselines (now y) (now bases) × Placed (now y) s ⌝ }
     ensures { λ r. ⌜ Goes p (now (y .entry)) (length (now (bases .entry))) s r ⌝ }
@@ -203,37 +207,39 @@ pub fn next_peak(y: &[f32], ground: f32, bases: &[f32], p: ImDetectParams, s: Se
     let mut last = s.last;
     let mut budget = s.budget;
     while i + 1 < y.len() {
-        let look = measure(y, ground, bases, p, i, budget);
-        let Look::At(f, left) = look else {
-            return Step::Deep(Search {
-                next: i,
-                held,
-                last,
-                budget,
-            });
-        };
-        if let Found::Apex(a) = f {
-            let turn = turn_for(y, p.min_distance_scans, held, last.index, i);
-            match turn {
-                Turn::Hold => {
-                    held = true;
-                    last = a;
-                }
-                Turn::Pass => {}
-                Turn::Settle => {
-                    return Step::Peak(
-                        last,
-                        Search {
-                            next: i + 1,
-                            held: true,
-                            last: a,
-                            budget: left,
-                        },
-                    );
+        if apex::inner::is_candidate(y, i) {
+            let look = measure(y, ground, bases, p, i, budget);
+            let Look::At(f, left) = look else {
+                return Step::Deep(Search {
+                    next: i,
+                    held,
+                    last,
+                    budget,
+                });
+            };
+            budget = left;
+            if let Found::Apex(a) = f {
+                let turn = turn_for(y, p.min_distance_scans, held, last.index, i);
+                match turn {
+                    Turn::Hold => {
+                        held = true;
+                        last = a;
+                    }
+                    Turn::Pass => {}
+                    Turn::Settle => {
+                        return Step::Peak(
+                            last,
+                            Search {
+                                next: i + 1,
+                                held: true,
+                                last: a,
+                                budget: left,
+                            },
+                        );
+                    }
                 }
             }
         }
-        budget = left;
         i += 1;
     }
     if held {
