@@ -13,18 +13,6 @@ ghost use Rattle.matching.specs.Matching.{sameGroup, rowsNear, framesOve
 ghost use Rattle.matching.specs.Group.{Covers, withinLimits, mayJoin};
 ghost use Rattle.matching.specs.Keys.{firstKey, secondKey, sameBucket, keyLt};
 
-fn lower(a: u32, b: u32) -> u32
-    ensures { λ r. ⌜ r ≡ min a b ⌝ }
-{
-    if a < b { a } else { b }
-}
-
-fn higher(a: u32, b: u32) -> u32
-    ensures { λ r. ⌜ r ≡ max a b ⌝ }
-{
-    if a < b { b } else { a }
-}
-
 // How far hi lies above lo, 0 if it does not.
 fn above(hi: u32, lo: u32) -> u32
     ensures { λ r. ⌜ r ≡ hi - lo ⌝ }
@@ -67,7 +55,10 @@ fn samples(lo: u32, hi: u32) -> u32
 pub fn overlap(lo_a: u32, hi_a: u32, lo_b: u32, hi_b: u32) -> u32
     ensures { λ r. ⌜ r ≡ overlap «lo_a» «hi_a» «lo_b» «hi_b» ⌝ }
 {
-    samples(higher(lo_a, lo_b), lower(hi_a, hi_b))
+    samples(
+        numeric::inner::higher(lo_a, lo_b),
+        numeric::inner::lower(hi_a, hi_b),
+    )
 }
 
 // Their share of all samples of the two.
@@ -115,7 +106,10 @@ fn rows_near(p: StitchParams, a: ImPeak1D, b: ImPeak1D) -> bool
 {
     at_most(
         p.max_tof_row_delta,
-        above(higher(a.tof_row, b.tof_row), lower(a.tof_row, b.tof_row)),
+        above(
+            numeric::inner::higher(a.tof_row, b.tof_row),
+            numeric::inner::lower(a.tof_row, b.tof_row),
+        ),
     )
 }
 
@@ -155,8 +149,8 @@ fn inside(lo: u32, hi: u32, scan: u32) -> bool
 fn apexes_inside(p: StitchParams, a: ImPeak1D, b: ImPeak1D) -> bool
     ensures { λ r. ⌜ r ≡ apexesInside p a b ⌝ }
 {
-    let lo = higher(a.left_abs, b.left_abs);
-    let hi = lower(a.right_abs, b.right_abs);
+    let lo = numeric::inner::higher(a.left_abs, b.left_abs);
+    let hi = numeric::inner::lower(a.right_abs, b.right_abs);
     !p.require_mutual_apex_inside
         | ((lo <= hi) & inside(lo, hi, a.scan_abs) & inside(lo, hi, b.scan_abs))
 }
@@ -197,10 +191,10 @@ pub fn widened(s: Spans, p: ImPeak1D) -> Spans
     ensures { λ r. ⌜ ((q : PeakT) (ps : List PeakT) → Covers s (q ∷ ps) → Covers r (p ∷ (q ∷ ps))) ⌝ }
 {
     Spans {
-        min_row: lower(p.tof_row, s.min_row),
-        max_row: higher(p.tof_row, s.max_row),
-        min_scan: lower(p.scan_abs, s.min_scan),
-        max_scan: higher(p.scan_abs, s.max_scan),
+        min_row: numeric::inner::lower(p.tof_row, s.min_row),
+        max_row: numeric::inner::higher(p.tof_row, s.max_row),
+        min_scan: numeric::inner::lower(p.scan_abs, s.min_scan),
+        max_scan: numeric::inner::higher(p.scan_abs, s.max_scan),
     }
 }
 
@@ -250,7 +244,7 @@ pub fn first_key(p: ImPeak1D, params: StitchParams) -> Key
 {
     Key {
         group: norm_wg(p, params.allow_cross_groups),
-        a: p.scan / higher(params.max_scan_delta, 1),
+        a: p.scan / numeric::inner::higher(params.max_scan_delta, 1),
         b: tof_bucket(p.tof_row, params.max_tof_row_delta),
         c: p.scan,
         d: p.rt_lo,

@@ -72,18 +72,6 @@ fn word_if(there: bool, w: u32) -> u32
     if there { w } else { 0 }
 }
 
-fn lower(a: u32, b: u32) -> u32
-    ensures { λ r. ⌜ r ≡ min a b ⌝ }
-{
-    if b < a { b } else { a }
-}
-
-fn higher(a: u32, b: u32) -> u32
-    ensures { λ r. ⌜ r ≡ max a b ⌝ }
-{
-    if a < b { b } else { a }
-}
-
 fn least_id(a: PeakId, b: PeakId) -> PeakId
     ensures { λ r. ⌜ r ≡ min a b ⌝ }
 {
@@ -195,16 +183,16 @@ fn join_bounds(b: Bounds, p: ImPeak1D) -> Bounds
     ensures { λ r. ⌜ ((ps : List ImPeak1D) → isAny ps ≡ true → b ≡ boundsOf ps → r ≡ boundsOf (ps ++ (p ∷ []))) ⌝ }
 {
     Bounds {
-        tof_lo: lower(b.tof_lo, p.tof_lo),
-        tof_hi: higher(b.tof_hi, p.tof_hi),
-        rt_lo: lower(b.rt_lo, p.rt_lo),
-        rt_hi: higher(b.rt_hi, p.rt_hi),
-        frame_id_lo: lower(b.frame_id_lo, p.frame_id_lo),
-        frame_id_hi: higher(b.frame_id_hi, p.frame_id_hi),
-        left: lower(b.left, p.left),
-        right: higher(b.right, p.right),
-        left_abs: lower(b.left_abs, p.left_abs),
-        right_abs: higher(b.right_abs, p.right_abs),
+        tof_lo: numeric::inner::lower(b.tof_lo, p.tof_lo),
+        tof_hi: numeric::inner::higher(b.tof_hi, p.tof_hi),
+        rt_lo: numeric::inner::lower(b.rt_lo, p.rt_lo),
+        rt_hi: numeric::inner::higher(b.rt_hi, p.rt_hi),
+        frame_id_lo: numeric::inner::lower(b.frame_id_lo, p.frame_id_lo),
+        frame_id_hi: numeric::inner::higher(b.frame_id_hi, p.frame_id_hi),
+        left: numeric::inner::lower(b.left, p.left),
+        right: numeric::inner::higher(b.right, p.right),
+        left_abs: numeric::inner::lower(b.left_abs, p.left_abs),
+        right_abs: numeric::inner::higher(b.right_abs, p.right_abs),
     }
 }
 

@@ -1,6 +1,6 @@
 // Steps of other crates, for arguments that they have checked.
 ghost use mathlib.Core.Path.{_≡_};
-ghost use Prim.Native.Nat.{_≤_};
+ghost use Prim.Native.Nat.{_≤_, min, max};
 ghost use lib.IntN.{pos};
 ghost use lib.ListN.{length};
 ghost use lib.Ieee.{binary32, ofInt};
@@ -23,4 +23,17 @@ pub fn all_in_range(y: &[f32], limit: u32) -> bool
         all = all & super::in_range(y[i], limit);
     }
     all
+}
+
+// The lower and the higher of two numbers.
+pub fn lower(a: u32, b: u32) -> u32
+    ensures { λ r. ⌜ r ≡ min a b ⌝ }
+{
+    if a < b { a } else { b }
+}
+
+pub fn higher(a: u32, b: u32) -> u32
+    ensures { λ r. ⌜ r ≡ max a b ⌝ }
+{
+    if a < b { b } else { a }
 }

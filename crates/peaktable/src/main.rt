@@ -2,20 +2,19 @@
 // peaks to standard output. It holds a line at a time.
 use libc::STDERR_FILENO;
 use libc::STDOUT_FILENO;
-use table::LineEnd;
 use table::Progress;
-use table::Verdict;
 ghost use mathlib.Core.Path.{_≡_};
-ghost use Prim.Native.Nat.{_≤_, _<_};
-ghost use lib.ListN.{length};
+ghost use mathlib.Core.Bool.{true, false};
+ghost use mathlib.Core.List.{List, _++_};
+ghost use Prim.Native.Nat.{ℕ, _≤_, _<_, _+_, _-_};
+ghost use lib.ListN.{length, take, drop};
+ghost use Rattle.table.specs.Print.{refusal};
+ghost use Rattle.table.specs.Lines.{noLf};
 ghost use Rattle.peaklines.specs.TableText.{scans};
+ghost use Rattle.tabletext.specs.Bytes.{textFrom, lineRoom};
+ghost use Rattle.peaktable.specs.Held.{Added, Lines, AllRead, bytesOf, Held, overWith, Stands, Worked, Turned};
 
-// How far the table has come: what has been accepted, how many bytes of text wait to be written, and whether to go on.
-struct Job {
-    progress: Progress,
-    waiting: usize,
-    goes_on: bool,
-}
+// ---- writing
 
 // Writes the text that waits; a word on standard error where it cannot be written.
 fn written(out: &[u8], n: usize) -> bool
@@ -28,145 +27,115 @@ fn written(out: &[u8], n: usize) -> bool
     false
 }
 
-// What waits after much of it has been written, and whether it could be.
-struct Waiting {
+// What has been accepted, and how many bytes of text wait at the front of the buffer to be written.
+struct Job {
+    progress: Progress,
     waiting: usize,
+}
+
+// The same, with the place behind the lines that were worked through, whether the table goes on, and whether text could be
+// written.
+struct Read {
+    progress: Progress,
+    waiting: usize,
+    from: usize,
+    goes_on: bool,
     ok: bool,
 }
 
-fn cleared(out: &[u8], waiting: usize) -> Waiting
-    requires { ⌜ waiting ≤ length (now out) ⌝ }
-    ensures { λ r. ⌜ r .waiting ≤ 65536 ⌝ }
+// Lines from a place on, as many as there is room for.
+fn some_lines(r: Read, bytes: &[u8], row: &mut [f32], axis: &[u32], out: &mut [u8]) -> Read
+    requires { ⌜ (r .from ≤ length (now bytes)) × (r .waiting ≤ length (now out)) × (4096 ≤ length (now row)) × (now axis ≡ scans 4096) ⌝ }
+    ensures { λ t. ⌜ Lines (now (bytes .entry)) (now (out .entry)) (now (out .exit)) r t ⌝ }
 {
-    if waiting <= 65536 {
-        return Waiting { waiting, ok: true };
-    }
-    Waiting {
-        waiting: 0,
-        ok: written(out, waiting),
+    let progress = r.progress;
+    let from = r.from;
+    let waiting = r.waiting;
+    let f = tabletext::inner::put_lines(progress, &bytes[from..], row, axis, &mut out[waiting..]);
+    let then = f.progress;
+    Read {
+        progress: then,
+        waiting: waiting + f.used,
+        from: from + f.from,
+        goes_on: f.goes_on,
+        ok: true,
     }
 }
 
-// One line more, given without its end.
-fn line_text(job: Job, line: &[u8], row: &mut [f32], axis: &[u32], out: &mut [u8]) -> Job
-    requires { ⌜ (4096 ≤ length (now row)) × (now axis ≡ scans 4096) × (262144 ≤ length (now out)) × (job .waiting ≤ length (now out)) ⌝ }
-    ensures { λ r. ⌜ r .waiting ≤ length (now (out .entry)) ⌝ }
+// All lines that have an end. Text is written where the room for more of it is short.
+fn whole_lines(job: Job, bytes: &[u8], row: &mut [f32], axis: &[u32], out: &mut [u8]) -> Read
+    requires { ⌜ (4096 ≤ length (now row)) × (now axis ≡ scans 4096) × (job .waiting + lineRoom ≤ length (now out)) ⌝ }
+    ensures { λ r. ⌜ (r .from ≤ length (now (bytes .entry))) × (r .waiting ≤ length (now (out .entry))) ⌝ }
+    ensures { λ r. ⌜ (r .ok ≡ true → r .«goes_on» ≡ true → AllRead (now (bytes .entry)) (now (out .entry)) (r .from) (r .waiting)) ⌝ }
+    ensures { λ r. ⌜ ((input : List ℕ) → Stands input true (job .progress) (now (out .entry)) (job .waiting) (now (bytes .entry)) → r .ok ≡ true → Stands input (r .«goes_on») (r .progress) (now (out .exit)) (r .waiting) (drop (r .from) (now (bytes .entry)))) ⌝ }
+{
+    let start = job.progress;
+    let mut r = Read {
+        progress: start,
+        waiting: job.waiting,
+        from: 0,
+        goes_on: true,
+        ok: true,
+    };
+    loop {
+        r = some_lines(r, bytes, row, axis, out);
+        if !r.goes_on {
+            return r;
+        }
+        if 188420 <= out.len() - r.waiting {
+            return r;
+        }
+        r.ok = written(out, r.waiting);
+        r.waiting = 0;
+        if !r.ok {
+            return r;
+        }
+    }
+}
+
+// The input's last line, which lacks its end, and the end of the table.
+fn last_line(job: Job, bytes: &[u8], row: &mut [f32], axis: &[u32], out: &mut [u8]) -> Job
+    requires { ⌜ (noLf (now bytes) ≡ true) × (4096 ≤ length (now row)) × (now axis ≡ scans 4096) × (job .waiting + lineRoom ≤ length (now out)) ⌝ }
+    ensures { λ r. ⌜ Added (now (out .entry)) (now (out .exit)) (textFrom (job .progress) (now (bytes .entry))) (job .waiting) (r .waiting) ⌝ }
 {
     let progress = job.progress;
-    let c = cleared(out, job.waiting);
-    let waiting = c.waiting;
-    if !c.ok {
-        return Job {
-            progress,
-            waiting: 0,
-            goes_on: false,
-        };
+    let waiting = job.waiting;
+    let used = tabletext::inner::put_last(progress, bytes, row, axis, &mut out[waiting..]);
+    Job {
+        progress,
+        waiting: waiting + used,
     }
-    let p = peaklines::inner::put_line(progress, line, row, axis, &mut out[waiting..]);
-    let verdict = p.verdict;
-    after(progress, verdict, waiting + p.used)
 }
 
-// The job after a line with a verdict.
-fn after(progress: Progress, verdict: Verdict, waiting: usize) -> Job
-    ensures { λ r. ⌜ r .waiting ≡ waiting ⌝ }
+// A line that has no end in all the room for one.
+fn overlong(job: Job, bytes: &[u8], out: &mut [u8]) -> Job
+    requires { ⌜ (noLf (now bytes) ≡ true) × (36864 < length (now bytes)) × (job .waiting + lineRoom ≤ length (now out)) ⌝ }
+    ensures { λ r. ⌜ ((rest : List ℕ) → Added (now (out .entry)) (now (out .exit)) (textFrom (job .progress) (now (bytes .entry) ++ rest)) (job .waiting) (r .waiting)) ⌝ }
 {
-    match verdict {
-        Verdict::Heading(s) => Job {
-            progress: Progress::Rows(s),
-            waiting,
-            goes_on: true,
-        },
-        Verdict::Row(s) => Job {
-            progress: Progress::Rows(s),
-            waiting,
-            goes_on: true,
-        },
-        Verdict::Refused => Job {
-            progress,
-            waiting,
-            goes_on: false,
-        },
+    let progress = job.progress;
+    let waiting = job.waiting;
+    let used = tabletext::inner::put_overlong(progress, bytes, &mut out[waiting..]);
+    Job {
+        progress,
+        waiting: waiting + used,
     }
 }
 
-// A refusal that no line gives: there was no line, a line has no end of its own in all the room for it, or reading failed.
+// A refusal that no bytes give: reading failed.
 fn refused(job: Job, out: &mut [u8]) -> Job
-    requires { ⌜ (262144 ≤ length (now out)) × (job .waiting ≤ length (now out)) ⌝ }
-    ensures { λ r. ⌜ r .waiting ≤ length (now (out .entry)) ⌝ }
+    requires { ⌜ job .waiting + lineRoom ≤ length (now out) ⌝ }
+    ensures { λ r. ⌜ Added (now (out .entry)) (now (out .exit)) refusal (job .waiting) (r .waiting) ⌝ }
 {
     let progress = job.progress;
-    let c = cleared(out, job.waiting);
-    let waiting = c.waiting;
+    let waiting = job.waiting;
     let used = table::inner::put_refusal(&mut out[waiting..]);
     Job {
         progress,
         waiting: waiting + used,
-        goes_on: false,
     }
 }
 
-// What the lines of some bytes that have an end leave: the job, and the place where the next line starts.
-struct Read {
-    job: Job,
-    from: usize,
-}
-
-fn whole_lines(job: Job, bytes: &[u8], row: &mut [f32], axis: &[u32], out: &mut [u8]) -> Read
-    requires { ⌜ (4096 ≤ length (now row)) × (now axis ≡ scans 4096) × (262144 ≤ length (now out)) × (job .waiting ≤ length (now out)) ⌝ }
-    ensures { λ r. ⌜ (r .job .waiting ≤ length (now (out .entry))) × (r .from ≤ length (now (bytes .entry))) ⌝ }
-{
-    let mut j = job;
-    let mut from = 0usize;
-    while from < bytes.len() && j.goes_on {
-        let end = table::next_line(bytes, from);
-        match end {
-            LineEnd::At(i) => {
-                if i < from {
-                    return Read { job: j, from };
-                }
-                if i >= bytes.len() {
-                    return Read { job: j, from };
-                }
-                j = ended_line(j, &bytes[from..i], row, axis, out);
-                from = i + 1;
-            }
-            LineEnd::Missing => {
-                return Read { job: j, from };
-            }
-        }
-    }
-    Read { job: j, from }
-}
-
-// A line that ends in LF; the byte before it must be CR.
-fn ended_line(job: Job, text: &[u8], row: &mut [f32], axis: &[u32], out: &mut [u8]) -> Job
-    requires { ⌜ (4096 ≤ length (now row)) × (now axis ≡ scans 4096) × (262144 ≤ length (now out)) × (job .waiting ≤ length (now out)) ⌝ }
-    ensures { λ r. ⌜ r .waiting ≤ length (now (out .entry)) ⌝ }
-{
-    if table::ends_in_cr(text) {
-        if 0 < text.len() {
-            let n = text.len() - 1;
-            return line_text(job, &text[..n], row, axis, out);
-        }
-    }
-    refused(job, out)
-}
-
-// The input's last line, which may lack its end; where there was no line at all, a refusal.
-fn last_line(job: Job, bytes: &[u8], row: &mut [f32], axis: &[u32], out: &mut [u8]) -> Job
-    requires { ⌜ (4096 ≤ length (now row)) × (now axis ≡ scans 4096) × (262144 ≤ length (now out)) × (job .waiting ≤ length (now out)) ⌝ }
-    ensures { λ r. ⌜ r .waiting ≤ length (now (out .entry)) ⌝ }
-{
-    if 0 < bytes.len() {
-        return line_text(job, bytes, row, axis, out);
-    }
-    let progress = job.progress;
-    match progress {
-        Progress::Start => refused(job, out),
-        Progress::Rows(_) => job,
-    }
-}
+// ---- reading
 
 // What reading gives: bytes behind those that are there, the end of the input, or a failure.
 enum More {
@@ -176,7 +145,9 @@ enum More {
 }
 
 fn more_bytes(buf: &mut [u8], have: usize) -> More
-    requires { ⌜ have ≤ length (now buf) ⌝ }
+    requires { ⌜ have < length (now buf) ⌝ }
+    ensures { λ _. ⌜ take have (now (buf .exit)) ≡ take have (now (buf .entry)) ⌝ }
+    ensures { λ r. ⌜ have + bytesOf r ≤ length (now (buf .entry)) ⌝ }
 {
     let got = libc::read(0, &mut buf[have..]);
     if got < 0 {
@@ -191,7 +162,8 @@ fn more_bytes(buf: &mut [u8], have: usize) -> More
 // Moves the bytes from a place on to the front, and answers how many there are.
 fn to_front(buf: &mut [u8], from: usize, have: usize) -> usize
     requires { ⌜ (from ≤ have) × (have ≤ length (now buf)) ⌝ }
-    ensures { λ r. ⌜ r ≤ length (now (buf .entry)) ⌝ }
+    ensures { λ r. ⌜ r ≡ have - from ⌝ }
+    ensures { λ r. ⌜ take r (now (buf .exit)) ≡ drop from (take have (now (buf .entry))) ⌝ }
 {
     let left = have - from;
     for i in 0..left {
@@ -200,20 +172,23 @@ fn to_front(buf: &mut [u8], from: usize, have: usize) -> usize
     left
 }
 
-// The job after some more of the input, the bytes of a line that has no end yet, and whether the table is at its end.
+// The job after some more of the input, the bytes of a line that has no end yet, whether the table is at its end, and whether
+// reading and writing went well.
 struct Turn {
     job: Job,
     have: usize,
     over: bool,
+    ok: bool,
 }
 
-fn over(job: Job) -> Turn
-    ensures { λ r. ⌜ (r .job .waiting ≡ job .waiting) × (r .have ≤ 0) ⌝ }
+fn over(job: Job, ok: bool) -> Turn
+    ensures { λ r. ⌜ r ≡ overWith job ok ⌝ }
 {
     Turn {
         job,
         have: 0,
         over: true,
+        ok,
     }
 }
 
@@ -225,26 +200,32 @@ fn after_bytes(
     axis: &[u32],
     out: &mut [u8],
 ) -> Turn
-    requires { ⌜ (have ≤ length (now buf)) × (4096 ≤ length (now row)) × (now axis ≡ scans 4096) × (262144 ≤ length (now out)) × (job .waiting ≤ length (now out)) ⌝ }
-    ensures { λ r. ⌜ (r .job .waiting ≤ length (now (out .entry))) × (r .have ≤ length (now (buf .entry))) ⌝ }
+    requires { ⌜ (have ≤ length (now buf)) × (36864 < length (now buf)) × (4096 ≤ length (now row)) × (now axis ≡ scans 4096) × (job .waiting + lineRoom ≤ length (now out)) ⌝ }
+    ensures { λ r. ⌜ r .job .waiting ≤ length (now (out .entry)) ⌝ }
+    ensures { λ r. ⌜ (r .over ≡ false → Held (now (buf .exit)) (now (out .entry)) (r .have) (r .job .waiting)) ⌝ }
+    ensures { λ r. ⌜ ((input : List ℕ) → Stands input true (job .progress) (now (out .entry)) (job .waiting) (take have (now (buf .entry))) → Worked input (now (buf .exit)) (now (out .exit)) r) ⌝ }
 {
-    let read = whole_lines(job, &buf[..have], row, axis, out);
-    let from = read.from;
-    let j = read.job;
-    if !j.goes_on {
-        return over(j);
+    let r = whole_lines(job, &buf[..have], row, axis, out);
+    let then = r.progress;
+    let j = Job {
+        progress: then,
+        waiting: r.waiting,
+    };
+    if !r.ok {
+        return over(j, false);
     }
-    if from > have {
-        return over(j);
+    if !r.goes_on {
+        return over(j, true);
     }
-    let left = to_front(buf, from, have);
+    let left = to_front(buf, r.from, have);
     if left == buf.len() {
-        return over(refused(j, out));
+        return over(overlong(j, &buf[..left], out), true);
     }
     Turn {
         job: j,
         have: left,
         over: false,
+        ok: true,
     }
 }
 
@@ -256,32 +237,28 @@ fn next_turn(
     axis: &[u32],
     out: &mut [u8],
 ) -> Turn
-    requires { ⌜ (have ≤ length (now buf)) × (4096 ≤ length (now row)) × (now axis ≡ scans 4096) × (262144 ≤ length (now out)) × (job .waiting ≤ length (now out)) ⌝ }
-    ensures { λ r. ⌜ (r .job .waiting ≤ length (now (out .entry))) × (r .have ≤ length (now (buf .entry))) ⌝ }
+    requires { ⌜ Held (now buf) (now out) have (job .waiting) × (36864 < length (now buf)) × (4096 ≤ length (now row)) × (now axis ≡ scans 4096) ⌝ }
+    ensures { λ r. ⌜ r .job .waiting ≤ length (now (out .entry)) ⌝ }
+    ensures { λ r. ⌜ (r .over ≡ false → Held (now (buf .exit)) (now (out .entry)) (r .have) (r .job .waiting)) ⌝ }
+    ensures { λ r. ⌜ ((input : List ℕ) → Stands input true (job .progress) (now (out .entry)) (job .waiting) (take have (now (buf .entry))) → Turned input (now (buf .exit)) (now (out .exit)) r) ⌝ }
 {
     let more = more_bytes(buf, have);
     match more {
-        More::Bytes(k) => {
-            if k <= buf.len() - have {
-                return after_bytes(job, buf, have + k, row, axis, out);
-            }
-            over(job)
-        }
-        More::End => over(last_line(job, &buf[..have], row, axis, out)),
+        More::Bytes(k) => after_bytes(job, buf, have + k, row, axis, out),
+        More::End => over(last_line(job, &buf[..have], row, axis, out), true),
         More::Failed => {
             io::write_all(STDERR_FILENO, b"peaktable: the input cannot be read\n");
-            over(refused(job, out))
+            over(refused(job, out), false)
         }
     }
 }
 
 fn read_all(buf: &mut [u8], row: &mut [f32], axis: &[u32], out: &mut [u8])
-    requires { ⌜ (4096 ≤ length (now row)) × (now axis ≡ scans 4096) × (262144 ≤ length (now out)) ⌝ }
+    requires { ⌜ (36864 < length (now buf)) × (4096 ≤ length (now row)) × (now axis ≡ scans 4096) × (lineRoom ≤ length (now out)) ⌝ }
 {
     let mut job = Job {
         progress: Progress::Start,
         waiting: 0,
-        goes_on: true,
     };
     let mut have = 0usize;
     let mut turns = u64::MAX;

@@ -71,25 +71,13 @@ pub fn bin_of(s: TofScale, tof: u32) -> u32
     (tof - s.tof_min) / s.tof_step
 }
 
-fn lower(a: u32, b: u32) -> u32
-    ensures { λ r. ⌜ r ≡ min a b ⌝ }
-{
-    if a < b { a } else { b }
-}
-
-fn higher(a: u32, b: u32) -> u32
-    ensures { λ r. ⌜ r ≡ max a b ⌝ }
-{
-    if a < b { b } else { a }
-}
-
 // The first and the last bin of a window.
 pub fn window_bins(s: TofScale, a: u32, b: u32) -> Span
     requires { ⌜ Sound s ⌝ }
     ensures { λ r. ⌜ r ≡ windowBins s a b ⌝ }
 {
-    let lo = lower(a, b);
-    let hi = higher(a, b);
+    let lo = numeric::inner::lower(a, b);
+    let hi = numeric::inner::higher(a, b);
     if hi <= s.tof_min {
         return Span { lo: 0, hi: 0 };
     }
@@ -98,8 +86,8 @@ pub fn window_bins(s: TofScale, a: u32, b: u32) -> Span
         return Span { lo: last, hi: last };
     }
     Span {
-        lo: bin_of(s, higher(lo, s.tof_min)),
-        hi: bin_of(s, lower(hi, s.tof_max)),
+        lo: bin_of(s, numeric::inner::higher(lo, s.tof_min)),
+        hi: bin_of(s, numeric::inner::lower(hi, s.tof_max)),
     }
 }
 
@@ -133,7 +121,7 @@ pub fn center_between(s: TofScale, mu: f32) -> f32
     }
     let i = numeric::cast_sat(mu);
     let t = mu - numeric::of_u32(i);
-    center_of(s, i) * (1.0 - t) + center_of(s, lower(i + 1, last)) * t
+    center_of(s, i) * (1.0 - t) + center_of(s, numeric::inner::lower(i + 1, last)) * t
 }
 
 // What row i is told of its place.

@@ -25,7 +25,7 @@ slice-aggregate-read-all-4 : tie.Need-slice-aggregate-read-all-4
 slice-aggregate-read-all-4 c = search needs
 
 read-all-requires : tie.Need-read-all-requires
-read-all-requires c κs = (omega arith, c .before .before .before .before .before .count-up .ensures, omega arith)
+read-all-requires c κs = (omega (arith, c .before .before .before .before .before .before .before .large-buffer .ensures), omega arith, c .before .before .before .before .before .count-up .ensures, omega arith)
 
 returns : tie.Need-returns
 returns c = search needs

@@ -1,0 +1,2 @@
+-- The laws that the proofs of `ordering` cite.
+pub mod Laws

@@ -1,0 +1,2 @@
+-- The definitions that the contracts of `tabletext` cite.
+pub mod Bytes
