@@ -4,9 +4,10 @@
 # The main job: the table of document 01's example, or of a file of RFC 4180 lines: make table FILE=readings.csv
 FILE ?= crates/peaktable/stdin
 
+# The program has no exit status of its own: what it says on standard error, if it cannot read or write, makes the job fail.
 table:
 	@rt check peaktable >&2
-	@target/bin/peaktable <$(FILE)
+	@{ said=$$(target/bin/peaktable 2>&1 >&3 <$(FILE)); } 3>&1 && [ -z "$$said" ] || { echo "$$said" >&2; exit 1; }
 
 # Layout, proofs, must-fail edits and replayed answers; then the comparison with the Rust, where its sources and cargo are.
 test:
