@@ -1,0 +1,2 @@
+-- What the proofs of `grouping` share.
+pub mod Laws

@@ -1,0 +1,23 @@
+use mathlib.Core.Path.{refl}
+use mathlib.Core.List.{_∷_, reverse, reverse-cons}
+use borrow.Author.Needs.{needs}
+use Rattle.grouping.proofs.inner.joined.Statement.{statement}
+use Rattle.grouping.proofs.inner.joined.Tie as tie
+use Rattle.grouping.proofs.inner.joined.Lts as lts
+
+widened-requires : tie.Need-widened-requires
+widened-requires c κs = search needs
+
+join-requires : tie.Need-join-requires
+join-requires c κs = search needs
+
+returns : tie.Need-returns
+returns c = λ rule q ps h k. record {
+  newest = refl;
+  key = k;
+  spans = c .before .widened .ensures q ps (h .spans);
+  sums = rw (reverse-cons (c .before .before .before .before .args .p) (q ∷ ps)) (c .join .ensures (reverse (q ∷ ps)) (h .sums));
+}
+
+pub joined-spec : {M : Type 1} → statement M
+joined-spec = tie.close (tie.spec widened-requires join-requires returns)
