@@ -1,0 +1,2 @@
+-- What the proofs of `stitch` share.
+pub mod Laws
