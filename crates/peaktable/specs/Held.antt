@@ -59,13 +59,14 @@ overWith job ok = record { job = job; have = 0; over = true; ok = ok }
 
 -- ---- the table
 
--- The bytes `input` have been read. The table is some text that has been written, then the text that waits and, where the table
--- goes on, what is printed for the bytes that are held and whatever follows them.
+-- For some bytes `input` the table is some text `gone`, then the text that waits and, where the table goes on, what is printed
+-- for the bytes that are held and whatever follows them. That `input` is what was read and `gone` what was written, no contract
+-- can say: a program that let text fall without writing it would meet this too.
 pub record Stands (input : List ℕ) (on : Bool) (s : Progress) (out : List ℕ) (waiting : ℕ) (held : List ℕ) : Type 0 where
   pub gone : List ℕ
   pub text : (rest : List ℕ) → tableText (input ++ rest) ≡ gone ++ (take waiting out ++ cond on (textFrom s (held ++ rest)) [])
 
--- What waits is the end of the table of the bytes `input`.
+-- What waits is the end of the table of some bytes `input`.
 pub record Ends (input out : List ℕ) (waiting : ℕ) : Type 0 where
   pub gone : List ℕ
   pub text : tableText input ≡ gone ++ take waiting out
