@@ -1,11 +1,16 @@
 -- The area under the straight lines that join the readings, between two places x0 and x1 given in samples. Segment s runs
 -- from sample s to sample s + 1. Every operation is rounded once, in this order.
+use mathlib.Core.Path.{_≡_, refl}
 use mathlib.Core.Bool.{cond, not, _&&_}
-use mathlib.Core.List.{List}
+use mathlib.Core.List.{List, [], _∷_}
+use mathlib.Core.Option.{none, some}
 use Prim.Native.Nat.{ℕ, zero, suc, _+_, _-_, min}
 use lib.Dec.{leb, ltb, eqb}
 use lib.ListN.{length}
 use lib.Ieee.{Float, le}
+use Rattle.refusal.specs.Refusal.{Check, firstOf}
+use Rattle.refusal.specs.Answers.{Says}
+use Rattle.limits.specs.Limits.{maxSamples, maxReading, maxPlace}
 use Rattle.numeric.specs.Arith.{_⊕_, _⊖_, _⊗_, 𝟎, ½, 𝟏, indexF, at}
 use Rattle.numeric.specs.Numeric.{clampF, castF, inRange, allInRange, lerpF}
 use Rattle.area.specs.declared.AreaAnswer.{AreaAnswer}
@@ -56,9 +61,22 @@ areaF y x0 x1 =
 
 -- ---- the entry
 
--- 2: more than 16,384 samples; 3: a reading not from 0 to 2^32; 4: a place not from 0 to 65,535
-unfoldable pub areaAnswer : List Float → Float → Float → AreaAnswer
-areaAnswer y x0 x1 =
-    cond (ltb 16384 (length y)) (Refused 2)
-    (cond (not (allInRange 0x4f80_0000 y)) (Refused 3)
-    (cond (not (inRange 0x477f_ff00 x0 && inRange 0x477f_ff00 x1)) (Refused 4) (Area (areaF y x0 x1))))
+-- its checks: 2: more than 16,384 samples; 3: a reading not from 0 to 2^32; 4: a place not from 0 to 65,535
+abbrev pub areaChecks : List Float → Float → Float → List Check
+areaChecks y x0 x1 =
+    record { number = 2; applies = ltb maxSamples (length y) }
+    ∷ record { number = 3; applies = not (allInRange maxReading y) }
+    ∷ record { number = 4; applies = not (inRange maxPlace x0 && inRange maxPlace x1) }
+    ∷ []
+
+unfoldable pub areaNumber : List Float → Float → Float → ℕ
+areaNumber y x0 x1 = firstOf (areaChecks y x0 x1)
+
+pub number-is : (y : List Float) (x0 x1 : Float) → areaNumber y x0 x1 ≡ firstOf (areaChecks y x0 x1)
+unfolding areaNumber
+number-is y x0 x1 = refl
+
+-- what its answers say
+abbrev pub areaSays : AreaAnswer → Says Float
+areaSays (Area a) = record { number = 0; values = some a }
+areaSays (Refused n) = record { number = n; values = none }

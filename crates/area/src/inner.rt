@@ -2,6 +2,7 @@
 ghost use mathlib.Core.Path.{_≡_};
 ghost use Prim.Native.Nat.{_≤_, _<_, _+_, _-_, min};
 ghost use lib.ListN.{length};
+ghost use Rattle.limits.specs.Limits.{exactIndex};
 ghost use Rattle.area.specs.Area.{heightAt, strip, within, head, whole, tail, across, between, areaF};
 
 fn height_at(y: &[f32], s: usize, t: f32) -> f32
@@ -24,7 +25,7 @@ fn smaller(a: usize, b: usize) -> usize
 }
 
 fn within_segment(y: &[f32], s: usize, x0: f32, x1: f32) -> f32
-    requires { ⌜ (s + 1 < length (now y)) × (length (now y) ≤ 16777216) ⌝ }
+    requires { ⌜ (s + 1 < length (now y)) × (length (now y) ≤ exactIndex) ⌝ }
     ensures { λ r. ⌜ r ≡ within (now (y .entry)) s x0 x1 ⌝ }
 {
     let start = numeric::inner::of_index(s);
@@ -36,7 +37,7 @@ fn within_segment(y: &[f32], s: usize, x0: f32, x1: f32) -> f32
 }
 
 fn head_of(y: &[f32], s: usize, x0: f32) -> f32
-    requires { ⌜ (s + 1 < length (now y)) × (length (now y) ≤ 16777216) ⌝ }
+    requires { ⌜ (s + 1 < length (now y)) × (length (now y) ≤ exactIndex) ⌝ }
     ensures { λ r. ⌜ r ≡ head (now (y .entry)) s x0 ⌝ }
 {
     let t0 = x0 - numeric::inner::of_index(s);
@@ -56,7 +57,7 @@ fn whole_segments(y: &[f32], from: usize, to: usize, start: f32) -> f32
 }
 
 fn tail_of(y: &[f32], s: usize, x1: f32, area: f32) -> f32
-    requires { ⌜ (2 ≤ length (now y)) × (length (now y) ≤ 16777216) ⌝ }
+    requires { ⌜ (2 ≤ length (now y)) × (length (now y) ≤ exactIndex) ⌝ }
     ensures { λ r. ⌜ r ≡ tail (now (y .entry)) s x1 area ⌝ }
 {
     if s <= y.len() - 2 {
@@ -68,7 +69,7 @@ fn tail_of(y: &[f32], s: usize, x1: f32, area: f32) -> f32
 }
 
 fn across_segments(y: &[f32], s0: usize, s1: usize, x0: f32, x1: f32) -> f32
-    requires { ⌜ (s0 + 1 < length (now y)) × (length (now y) ≤ 16777216) ⌝ }
+    requires { ⌜ (s0 + 1 < length (now y)) × (length (now y) ≤ exactIndex) ⌝ }
     ensures { λ r. ⌜ r ≡ across (now (y .entry)) s0 s1 x0 x1 ⌝ }
 {
     let to = smaller(s1, y.len() - 2);
@@ -76,15 +77,16 @@ fn across_segments(y: &[f32], s0: usize, s1: usize, x0: f32, x1: f32) -> f32
     tail_of(y, s1, x1, a)
 }
 
-fn area_between(y: &[f32], x0: f32, x1: f32) -> f32
-    requires { ⌜ (2 ≤ length (now y)) × (length (now y) ≤ 16777216) ⌝ }
+// With guesses of the samples at or before x0 and x1.
+fn area_between(y: &[f32], x0: f32, x1: f32, g0: usize, g1: usize) -> f32
+    requires { ⌜ (2 ≤ length (now y)) × (length (now y) ≤ exactIndex) ⌝ }
     ensures { λ r. ⌜ r ≡ between (now (y .entry)) x0 x1 ⌝ }
 {
     if x1 <= x0 {
         return 0.0;
     }
-    let i0 = numeric::cast_sat(x0) as usize;
-    let i1 = numeric::cast_sat(x1) as usize;
+    let i0 = rounding::near::cast_near(x0, g0) as usize;
+    let i1 = rounding::near::cast_near(x1, g1) as usize;
     let s0 = smaller(i0, y.len() - 2);
     if i0 == i1 {
         return within_segment(y, s0, x0, x1);
@@ -92,8 +94,9 @@ fn area_between(y: &[f32], x0: f32, x1: f32) -> f32
     across_segments(y, s0, i1, x0, x1)
 }
 
-pub fn trapezoid_area_fractional(y: &[f32], x0: f32, x1: f32) -> f32
-    requires { ⌜ length (now y) ≤ 16777216 ⌝ }
+// The area between two places. The guesses g0 and g1 of the samples at or before them only save time.
+pub fn trapezoid_area_near(y: &[f32], x0: f32, x1: f32, g0: usize, g1: usize) -> f32
+    requires { ⌜ length (now y) ≤ exactIndex ⌝ }
     ensures { λ r. ⌜ r ≡ areaF (now (y .entry)) x0 x1 ⌝ }
 {
     if y.len() < 2 {
@@ -104,5 +107,14 @@ pub fn trapezoid_area_fractional(y: &[f32], x0: f32, x1: f32) -> f32
         y,
         numeric::clamp(x0, 0.0, last),
         numeric::clamp(x1, 0.0, last),
+        g0,
+        g1,
     )
+}
+
+pub fn trapezoid_area_fractional(y: &[f32], x0: f32, x1: f32) -> f32
+    requires { ⌜ length (now y) ≤ exactIndex ⌝ }
+    ensures { λ r. ⌜ r ≡ areaF (now (y .entry)) x0 x1 ⌝ }
+{
+    trapezoid_area_near(y, x0, x1, 0, 0)
 }

@@ -2,6 +2,7 @@
 use super::FrameBounds;
 use super::ImDetectParams;
 use super::RowPlace;
+use limits::PeakId;
 ghost use mathlib.Core.Path.{_≡_};
 ghost use lib.ListN.{length};
 ghost use Rattle.params.specs.Params.{mostPeaks, lentOrEmpty, soundParams, soundBounds, soundTof, enoughIds, allUpTo, rising};
@@ -21,28 +22,30 @@ pub fn lent_or_empty(n: usize, table: &[f32]) -> bool
 pub fn sound_params(p: ImDetectParams) -> bool
     ensures { λ r. ⌜ r ≡ soundParams p ⌝ }
 {
-    numeric::in_range(p.min_prom, 0x5000_0000)
-        & (p.min_distance_scans <= 65535)
-        & (p.min_width_scans <= 65535)
+    numeric::in_range(p.min_prom, limits::MAX_HEIGHT)
+        & (p.min_distance_scans <= limits::MAX_COUNT)
+        & (p.min_width_scans <= limits::MAX_COUNT)
 }
 
 pub fn sound_bounds(f: FrameBounds) -> bool
     ensures { λ r. ⌜ r ≡ soundBounds f ⌝ }
 {
-    (f.rt_lo <= f.rt_hi) & (f.rt_hi <= 16383) & (f.frame_id_lo <= f.frame_id_hi)
+    (f.rt_lo <= f.rt_hi) & (f.rt_hi <= limits::LAST_FRAME) & (f.frame_id_lo <= f.frame_id_hi)
 }
 
 pub fn sound_tof(r: RowPlace) -> bool
     ensures { λ a. ⌜ a ≡ soundTof r ⌝ }
 {
-    (r.tof_center <= 4259839) & (r.tof_lo <= 4259839) & (r.tof_hi <= 4259839)
+    (r.tof_center <= limits::MAX_TOF_BOUND)
+        & (r.tof_lo <= limits::MAX_TOF_BOUND)
+        & (r.tof_hi <= limits::MAX_TOF_BOUND)
 }
 
-pub fn enough_ids(first: u32, peaks: usize) -> bool
+pub fn enough_ids(first: PeakId, peaks: usize) -> bool
     ensures { λ r. ⌜ r ≡ enoughIds first peaks ⌝ }
 {
-    if peaks <= 4294967296 {
-        return (first as usize) + peaks <= 4294967296;
+    if peaks <= limits::IDENTITIES {
+        return (first as usize) + peaks <= limits::IDENTITIES;
     }
     false
 }

@@ -5,12 +5,17 @@ use Prim.Native.Nat.{ℕ, zero, suc, _+_, _*_, _/_, _%_}
 use lib.Dec.{leb, eqb}
 use lib.ListN.{getD, take, drop}
 use lib.Ieee.{Float, binary32, le, toBits, ofBits}
+use Rattle.limits.specs.Limits.{maxPlace, maxMobility, maxHeight, maxArea, maxOffset, lastRow, maxTofBound, lastFrame, lastSample, maxScan, maxWidth}
 use Rattle.numeric.specs.Numeric.{inRange}
 use Rattle.record.specs.declared.ImPeak1D.{ImPeak1D}
 
 -- the words of a record
 abbrev pub size : ℕ
 size = 27
+
+-- its bytes
+abbrev pub sizeInBytes : ℕ
+sizeInBytes = 4 * size
 
 -- ---- identities, the only definitions that know how they are held
 
@@ -97,41 +102,41 @@ hasSigma p = eqb (p .flags / 4 % 2) 1
 
 -- floats from 0 to 65,535, 2 ^ 20, 2 ^ 33 and 2 ^ 50
 abbrev pub place : Float → Bool
-place x = inRange 0x477f_ff00 x
+place x = inRange maxPlace x
 
 abbrev pub modest : Float → Bool
-modest x = inRange 0x4980_0000 x
+modest x = inRange maxMobility x
 
 abbrev pub height : Float → Bool
-height x = inRange 0x5000_0000 x
+height x = inRange maxHeight x
 
 abbrev pub area : Float → Bool
-area x = inRange 0x5880_0000 x
+area x = inRange maxArea x
 
 -- from -0.5 to 0.5, either zero
 abbrev pub offset : Float → Bool
-offset x = leb (word x % 0x8000_0000) 0x3f00_0000
+offset x = leb (word x % 0x8000_0000) maxOffset
 
 unfoldable pub soundTof : ImPeak1D → Bool
 soundTof p =
-    leb (p .«tof_row») 4194303 && leb (p .«tof_center») 4259839 && leb (p .«tof_lo») (p .«tof_hi») && leb (p .«tof_hi») 4259839
+    leb (p .«tof_row») lastRow && leb (p .«tof_center») maxTofBound && leb (p .«tof_lo») (p .«tof_hi») && leb (p .«tof_hi») maxTofBound
 
 unfoldable pub soundFrames : ImPeak1D → Bool
-soundFrames p = leb (p .«rt_lo») (p .«rt_hi») && leb (p .«rt_hi») 16383 && leb (p .«frame_id_lo») (p .«frame_id_hi»)
+soundFrames p = leb (p .«rt_lo») (p .«rt_hi») && leb (p .«rt_hi») lastFrame && leb (p .«frame_id_lo») (p .«frame_id_hi»)
 
 unfoldable pub soundOptions : ImPeak1D → Bool
 soundOptions p = leb (p .flags) 7 && (not (hasSigma p) || modest (p .«scan_sigma»)) && (not (hasMobility p) || modest (p .mobility))
 
 unfoldable pub soundScans : ImPeak1D → Bool
 soundScans p =
-    leb (p .scan) 16383 && leb (p .left) (p .right) && leb (p .right) 16383
-    && leb (p .«scan_abs») 65535 && leb (p .«left_abs») (p .«right_abs») && leb (p .«right_abs») 65535
+    leb (p .scan) lastSample && leb (p .left) (p .right) && leb (p .right) lastSample
+    && leb (p .«scan_abs») maxScan && leb (p .«left_abs») (p .«right_abs») && leb (p .«right_abs») maxScan
 
 unfoldable pub soundShape : ImPeak1D → Bool
 soundShape p =
     height (p .«apex_smoothed») && height (p .«apex_raw») && height (p .prominence)
     && place (p .«left_x») && place (p .«right_x») && le (p .«left_x») (p .«right_x»)
-    && leb (p .«width_scans») 65536 && area (p .«area_raw») && offset (p .subscan)
+    && leb (p .«width_scans») maxWidth && area (p .«area_raw») && offset (p .subscan)
 
 unfoldable pub sound : ImPeak1D → Bool
 sound p = soundTof p && soundFrames p && soundOptions p && soundScans p && soundShape p

@@ -125,30 +125,20 @@ pub fn put_peak(out: &mut [u32], k: usize, p: ImPeak1D)
     put_words(&mut out[at..], p);
 }
 
-// Bit patterns of the highest values: 65,535, 2 ^ 20, 2 ^ 33, 2 ^ 50 and 0.5.
-const PLACE: u32 = 0x477f_ff00;
-
-const MODEST: u32 = 0x4980_0000;
-
-const HEIGHT: u32 = 0x5000_0000;
-
-const AREA: u32 = 0x5880_0000;
-
-const HALF: u32 = 0x3f00_0000;
-
+// What number 9 asks of the fields.
 fn sound_tof(p: ImPeak1D) -> bool
     ensures { λ r. ⌜ r ≡ soundTof p ⌝ }
 {
-    (p.tof_row <= 4194303)
-        & (p.tof_center <= 4259839)
+    (p.tof_row <= limits::LAST_ROW)
+        & (p.tof_center <= limits::MAX_TOF_BOUND)
         & (p.tof_lo <= p.tof_hi)
-        & (p.tof_hi <= 4259839)
+        & (p.tof_hi <= limits::MAX_TOF_BOUND)
 }
 
 fn sound_frames(p: ImPeak1D) -> bool
     ensures { λ r. ⌜ r ≡ soundFrames p ⌝ }
 {
-    (p.rt_lo <= p.rt_hi) & (p.rt_hi <= 16383) & (p.frame_id_lo <= p.frame_id_hi)
+    (p.rt_lo <= p.rt_hi) & (p.rt_hi <= limits::LAST_FRAME) & (p.frame_id_lo <= p.frame_id_hi)
 }
 
 fn sound_options(p: ImPeak1D) -> bool
@@ -157,33 +147,33 @@ fn sound_options(p: ImPeak1D) -> bool
     let sigma = p.flags / ImPeak1D::HAS_SIGMA % 2 == 1;
     let mobility = p.flags / ImPeak1D::HAS_MOBILITY % 2 == 1;
     (p.flags <= 7)
-        & (!sigma | numeric::in_range(p.scan_sigma, MODEST))
-        & (!mobility | numeric::in_range(p.mobility, MODEST))
+        & (!sigma | numeric::in_range(p.scan_sigma, limits::MAX_MOBILITY))
+        & (!mobility | numeric::in_range(p.mobility, limits::MAX_MOBILITY))
 }
 
 fn sound_scans(p: ImPeak1D) -> bool
     ensures { λ r. ⌜ r ≡ soundScans p ⌝ }
 {
-    (p.scan <= 16383)
+    (p.scan <= limits::LAST_SAMPLE)
         & (p.left <= p.right)
-        & (p.right <= 16383)
-        & (p.scan_abs <= 65535)
+        & (p.right <= limits::LAST_SAMPLE)
+        & (p.scan_abs <= limits::MAX_SCAN)
         & (p.left_abs <= p.right_abs)
-        & (p.right_abs <= 65535)
+        & (p.right_abs <= limits::MAX_SCAN)
 }
 
 fn sound_shape(p: ImPeak1D) -> bool
     ensures { λ r. ⌜ r ≡ soundShape p ⌝ }
 {
-    numeric::in_range(p.apex_smoothed, HEIGHT)
-        & numeric::in_range(p.apex_raw, HEIGHT)
-        & numeric::in_range(p.prominence, HEIGHT)
-        & numeric::in_range(p.left_x, PLACE)
-        & numeric::in_range(p.right_x, PLACE)
+    numeric::in_range(p.apex_smoothed, limits::MAX_HEIGHT)
+        & numeric::in_range(p.apex_raw, limits::MAX_HEIGHT)
+        & numeric::in_range(p.prominence, limits::MAX_HEIGHT)
+        & numeric::in_range(p.left_x, limits::MAX_PLACE)
+        & numeric::in_range(p.right_x, limits::MAX_PLACE)
         & (p.left_x <= p.right_x)
-        & (p.width_scans <= 65536)
-        & numeric::in_range(p.area_raw, AREA)
-        & (numeric::word_of(p.subscan) % 0x8000_0000 <= HALF)
+        & (p.width_scans <= limits::MAX_WIDTH)
+        & numeric::in_range(p.area_raw, limits::MAX_AREA)
+        & (numeric::word_of(p.subscan) % 0x8000_0000 <= limits::MAX_OFFSET)
 }
 
 // Whether number 9 does not apply to a peak: every field in range, and no low bound above its high one.

@@ -2,7 +2,7 @@
 pub mod inner;
 
 // Peak identities. They stand last in a record, and are read, written and compared only by the functions that name them.
-pub type PeakId = u32;
+pub use limits::PeakId;
 
 // A mobility peak. Three of its fields may be missing: the window group, the mobility and the scan sigma. A bit of `flags`
 // tells whether each is there, and the field of one that is missing is 0.
@@ -44,8 +44,10 @@ impl ImPeak1D {
 
     pub const HAS_SIGMA: u32 = 4;
 
-    // Words of a record, and the place of each field in it.
+    // Words and bytes of a record, and the place of each field in it.
     pub const WORDS: usize = 27;
+
+    pub const BYTES: usize = 108;
 
     pub const TOF_ROW: usize = 0;
 

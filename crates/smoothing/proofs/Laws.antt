@@ -12,11 +12,12 @@ use lib.Dec.{leb, ltb, eqb}
 use lib.ListN.{length, drop, take, set, length-append, length-map, take-append-drop, drop-of-length-le, List·getD-append}
 use lib.Seq.{drop-cons, take-suc, take-length, set-at, getD-at, take-at, drop-at, drop-drop, drop-length, length-take-le, getD-take, ext-getD}
 use lib.Ieee.{Float, nan, lt}
-use Rattle.numeric.proofs.Laws.{clash}
+use Rattle.refusal.specs.Bools.{all4}
 use Rattle.numeric.specs.Numeric.{allInRange}
-use Rattle.numeric.specs.Refusal.{firstOf}
+use Rattle.limits.specs.Limits.{maxWeights}
 use Rattle.numeric.specs.Arith.{_⊕_, _⊗_, _⊘_, 𝟎, at}
 use Rattle.smoothing.specs.Smoothing.{tabulate, sumFrom, normalised, radius, meets, weighted, met, smoothedAt, smoothed, soundWeights, smoothNumber}
+use Rattle.smoothing.specs.SmoothLaws.{none-for}
 use Rattle.smoothing.specs.Steps.{filled, added}
 
 -- ---- tables
@@ -261,25 +262,11 @@ pub normalised-length : (ws : List Float) → length (normalised ws) ≡ length 
 unfolding normalised
 normalised-length ws = length-map ws _
 
-sound-count : (ws : List Float) → soundWeights ws ≡ true → length ws ≤ 257
+sound-count : (ws : List Float) → soundWeights ws ≡ true → length ws ≤ maxWeights
 unfolding soundWeights
-sound-count ws e = leb-true (length ws) 257 (second (eqb (length ws % 2) 1) (leb (length ws) 257) _ _ e)
-  where
-    second : (a b c d : Bool) → (a && b && c && d) ≡ true → b ≡ true
-    second true true c d e = refl
-    second true false c d e = e
-    second false b c d e = clash false e refl
+sound-count ws e = leb-true (length ws) maxWeights (all4 (eqb (length ws % 2) 1) e .1)
 
 -- what holds where no number applies
-pub none-applies : (v ws : List Float) (scratch : ℕ) → smoothNumber v ws scratch ≡ 0 → (length v ≤ scratch) × (length ws ≤ 257)
-unfolding smoothNumber firstOf
+pub none-applies : (v ws : List Float) (scratch : ℕ) → smoothNumber v ws scratch ≡ 0 → (length v ≤ scratch) × (length ws ≤ maxWeights)
 none-applies v ws scratch e =
-    let h = last-two (ltb 16384 (length v)) (not (allInRange 0x4f80_0000 v)) (not (soundWeights ws)) (ltb scratch (length v)) e in
-    (ltb-false scratch (length v) (h .1), sound-count ws (not-false (soundWeights ws) (h .0)))
-  where
-    last-two : (a b c d : Bool) → _≡_ {A = ℕ} (cond a 2 (cond b 3 (cond c 6 (cond d 21 0)))) 0 → (c ≡ false) × (d ≡ false)
-    last-two true b c d e = absurd (omega arith)
-    last-two false true c d e = absurd (omega arith)
-    last-two false false true d e = absurd (omega arith)
-    last-two false false false true e = absurd (omega arith)
-    last-two false false false false e = (refl, refl)
+    (ltb-false scratch (length v) (none-for v ws scratch 21 e), sound-count ws (not-false (soundWeights ws) (none-for v ws scratch 6 e)))

@@ -1,10 +1,10 @@
--- What the entry answers.
-use mathlib.Core.Bool.{cond}
-use Prim.Native.Nat.{ℕ}
-use lib.Dec.{eqb}
+-- What the entry's answers say.
+use mathlib.Core.Option.{none, some}
+use Rattle.refusal.specs.Answers.{Says}
 use Rattle.smoothing.specs.declared.SmoothAnswer.{SmoothAnswer}
 use Rattle.smoothing.specs.declared.SmoothAnswer.the-variants.{Smoothed, Refused}
 
--- the number of document 01 that applies, and 0 if none does
-unfoldable pub smoothAnswer : ℕ → SmoothAnswer
-smoothAnswer n = cond (eqb n 0) Smoothed (Refused n)
+-- the smoothed row stands in the buffers, so there are no values but that it is there
+abbrev pub smoothSays : SmoothAnswer → Says (Unit {0})
+smoothSays Smoothed = record { number = 0; values = some tt }
+smoothSays (Refused n) = record { number = n; values = none }

@@ -5,7 +5,7 @@ use Prim.Native.Nat.{ℕ}
 use lib.Ieee.{Float, binary32, ofBits, toBits, ofInt, add, mul, div, lt}
 use Rattle.numeric.specs.Arith.{indexF, ½, 𝟏}
 use Rattle.numeric.specs.Numeric.{inRange, allInRange}
-use Rattle.numeric.specs.Refusal.{firstOf}
+use Rattle.refusal.specs.Refusal.{firstOf}
 use Rattle.smoothing.specs.Smoothing.{tabulate, sumFrom, normalised, weighted, met, smoothedAt, smoothed, soundWeights, smoothNumber}
 
 -- whole numbers as readings

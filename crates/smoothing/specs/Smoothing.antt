@@ -1,14 +1,16 @@
 -- Smoothing of a row by weights that the caller gives as they stand before division by their sum. Every operation is
 -- rounded once, in this order.
+use mathlib.Core.Path.{_≡_, refl}
 use mathlib.Core.Bool.{Bool, cond, not, _&&_}
 use mathlib.Core.List.{List, [], _∷_, _++_, map}
 use Prim.Native.Nat.{ℕ, zero, suc, _+_, _-_, _/_, _%_}
 use lib.Dec.{leb, ltb, eqb}
 use lib.ListN.{length}
 use lib.Ieee.{Float, binary32, lt, toBits}
+use Rattle.limits.specs.Limits.{maxWeights, maxWeight, maxSamples, maxReading}
 use Rattle.numeric.specs.Arith.{_⊕_, _⊗_, _⊘_, 𝟎, at}
 use Rattle.numeric.specs.Numeric.{allInRange}
-use Rattle.numeric.specs.Refusal.{firstOf}
+use Rattle.refusal.specs.Refusal.{Check, firstOf}
 
 -- f 0, f 1, .. f (n - 1)
 unfoldable pub tabulate : ℕ → (ℕ → Float) → List Float
@@ -60,14 +62,21 @@ smoothed ws y = tabulate (length y) (smoothedAt (normalised ws) y)
 -- number 6 asks of weights: an odd count to 257, each from 0 to 1, the middle one 1
 unfoldable pub soundWeights : List Float → Bool
 soundWeights ws =
-    eqb (length ws % 2) 1 && leb (length ws) 257 && allInRange 0x3f80_0000 ws
-    && eqb (toBits binary32 (at ws (length ws / 2))) 0x3f80_0000
+    eqb (length ws % 2) 1 && leb (length ws) maxWeights && allInRange maxWeight ws
+    && eqb (toBits binary32 (at ws (length ws / 2))) maxWeight
 
-unfoldable pub smoothNumber : List Float → List Float → ℕ → ℕ
-smoothNumber v ws scratch =
-    firstOf
-    (record { number = 2; applies = ltb 16384 (length v) }
-    ∷ record { number = 3; applies = not (allInRange 0x4f80_0000 v) }
+-- the checks of a row v, of weights and of the length of the lent scratch, and the number that they give
+abbrev pub smoothChecks : List Float → List Float → ℕ → List Check
+smoothChecks v ws scratch =
+    record { number = 2; applies = ltb maxSamples (length v) }
+    ∷ record { number = 3; applies = not (allInRange maxReading v) }
     ∷ record { number = 6; applies = not (soundWeights ws) }
     ∷ record { number = 21; applies = ltb scratch (length v) }
-    ∷ [])
+    ∷ []
+
+unfoldable pub smoothNumber : List Float → List Float → ℕ → ℕ
+smoothNumber v ws scratch = firstOf (smoothChecks v ws scratch)
+
+pub number-is : (v ws : List Float) (scratch : ℕ) → smoothNumber v ws scratch ≡ firstOf (smoothChecks v ws scratch)
+unfolding smoothNumber
+number-is v ws scratch = refl

@@ -4,6 +4,7 @@ ghost use mathlib.Core.List.{_++_, map};
 ghost use Prim.Native.Nat.{_≤_, _<_, _+_, _-_, _*_, _/_};
 ghost use lib.ListN.{length, drop};
 ghost use Rattle.numeric.specs.Arith.{_⊘_, 𝟎, at};
+ghost use Rattle.limits.specs.Limits.{maxWeights};
 ghost use Rattle.smoothing.specs.Smoothing.{tabulate, sumFrom, normalised, radius, weighted, smoothedAt, smoothed, soundWeights};
 ghost use Rattle.smoothing.specs.Steps.{filled, added};
 
@@ -176,10 +177,10 @@ pub fn normalise(weights: &[f32], u: &mut [f32])
 
 // The smoothed row, at the front of dst.
 pub fn smooth(src: &[f32], weights: &[f32], dst: &mut [f32])
-    requires { ⌜ (length (now src) ≤ length (now dst)) × (length (now weights) ≤ 257) ⌝ }
+    requires { ⌜ (length (now src) ≤ length (now dst)) × (length (now weights) ≤ maxWeights) ⌝ }
     ensures { λ _. ⌜ now (dst .exit) ≡ smoothed (now (weights .entry)) (now (src .entry)) ++ drop (length (now (src .entry))) (now (dst .entry)) ⌝ }
 {
-    let mut u = [0f32; 257];
+    let mut u = [0f32; limits::MAX_WEIGHTS];
     let m = weights.len();
     normalise(weights, &mut u[..m]);
     smooth_by(src, &u[..m], dst);
@@ -192,9 +193,9 @@ pub fn sound_weights(weights: &[f32]) -> bool
 {
     let m = weights.len();
     if m % 2 == 1 {
-        if m <= 257 {
-            if numeric::inner::all_in_range(weights, 0x3f80_0000) {
-                return numeric::word_of(weights[m / 2]) == 0x3f80_0000;
+        if m <= limits::MAX_WEIGHTS {
+            if numeric::inner::all_in_range(weights, limits::MAX_WEIGHT) {
+                return numeric::word_of(weights[m / 2]) == limits::MAX_WEIGHT;
             }
         }
     }

@@ -7,8 +7,9 @@ ghost use mathlib.Core.List.{_++_};
 ghost use lib.Dec.{eqb};
 ghost use Prim.Native.Nat.{_≤_};
 ghost use lib.ListN.{length, take, drop};
+ghost use Rattle.refusal.specs.Answers.{answerBy};
 ghost use Rattle.smoothing.specs.Smoothing.{smoothed, smoothNumber};
-ghost use Rattle.smoothing.specs.Answer.{smoothAnswer};
+ghost use Rattle.smoothing.specs.Answer.{smoothSays};
 
 pub enum SmoothAnswer {
     Smoothed,
@@ -29,10 +30,10 @@ fn copy(from: &[f32], to: &mut [f32])
 fn number(v: &[f32], weights: &[f32], scratch: usize) -> u32
     ensures { λ r. ⌜ r ≡ smoothNumber (now (v .entry)) (now (weights .entry)) scratch ⌝ }
 {
-    if v.len() > 16384 {
+    if v.len() > limits::MAX_SAMPLES {
         return 2;
     }
-    if !numeric::inner::all_in_range(v, 0x4f80_0000) {
+    if !numeric::inner::all_in_range(v, limits::MAX_READING) {
         return 3;
     }
     if !inner::sound_weights(weights) {
@@ -46,7 +47,7 @@ fn number(v: &[f32], weights: &[f32], scratch: usize) -> u32
 
 // Smooths v in place. The scratch then has the smoothed row at its front, and past it what it held.
 pub fn smooth_vector_gaussian(v: &mut [f32], weights: &[f32], scratch: &mut [f32]) -> SmoothAnswer
-    ensures { λ r. ⌜ r ≡ smoothAnswer (smoothNumber (now (v .entry)) (now (weights .entry)) (length (now (scratch .entry)))) ⌝ }
+    ensures { λ r. ⌜ smoothSays r ≡ answerBy (smoothNumber (now (v .entry)) (now (weights .entry)) (length (now (scratch .entry)))) tt ⌝ }
     ensures { λ _. ⌜ now (v .exit)
         ≡ cond (eqb (smoothNumber (now (v .entry)) (now (weights .entry)) (length (now (scratch .entry)))) 0)
         (smoothed (now (weights .entry)) (now (v .entry)))

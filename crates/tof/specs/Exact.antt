@@ -10,6 +10,7 @@ use lib.Ieee.{Float, nan, inf, fin, binary32, up, down, round, sum, add, mul, of
 use lib.Ieee.Exact.{HasValue, round-exact}
 use lib.Ieee.Back.{round-whole}
 use lib.Ieee.Fits.{down-pos}
+use Rattle.limits.specs.Limits.{maxTofBound}
 use Rattle.numeric.specs.Arith.{_⊕_, _⊗_, ½, indexF}
 use Rattle.tof.specs.declared.TofScale.{TofScale}
 use Rattle.tof.specs.Tof.{Sound, edge, centerF}
@@ -62,7 +63,7 @@ whole-half (fin false m e) a v h =
     subst (λ (z : ℕ). HasValue (round binary32 false z (2 * d)) false a 2) (sym n)
     (reduced (round binary32 false (a * d) (2 * d)) (a * d) (2 * d) a 2 p (mul-assoc a d 2 ∙ ap (λ (z : ℕ). a * z) (mul-comm d 2)) (rounds (a * d) (2 * d) a 148 p h (lit≤ tt) f))
 
-edge-value : (n : ℕ) → n ≤ 4259839 → HasValue (indexF n) false n 1
+edge-value : (n : ℕ) → n ≤ maxTofBound → HasValue (indexF n) false n 1
 unfolding ofInt
 edge-value n h = round-whole binary32 false n (omega arith)
 
@@ -72,7 +73,7 @@ unfolding centerF
 center-exact s h i b =
     let u = edges-held s h i b in
     let e = upper-edge s i in
-    let l : edge s i ≤ 4259839 = omega arith in
+    let l : edge s i ≤ maxTofBound = omega arith in
     let t : edge s i + edge s (i + 1) < 2 ^ 24 = omega arith in
     whole-half (indexF (edge s i) ⊕ indexF (edge s (i + 1))) (edge s i + edge s (i + 1))
     (whole-sum (indexF (edge s i)) (indexF (edge s (i + 1))) (edge s i) (edge s (i + 1)) (edge-value (edge s i) l) (edge-value (edge s (i + 1)) u) t)

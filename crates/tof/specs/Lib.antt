@@ -2,5 +2,6 @@
 pub mod Tof
 pub mod TofAnswers
 pub mod TofLaws
+pub mod TofWhich
 pub mod Exact
 pub mod Cases

@@ -1,14 +1,15 @@
 -- The scale that parts TOF values into bins of one step, from the lowest TOF of all frames to the highest, both rounded down
 -- to the step. Edges and centres are worked out.
-use mathlib.Core.Path.{_≡_}
+use mathlib.Core.Path.{_≡_, refl}
 use mathlib.Core.Bool.{Bool, true, cond, not, _&&_}
 use mathlib.Core.List.{List, [], _∷_}
 use Prim.Native.Nat.{ℕ, _+_, _-_, _*_, _/_, _%_, min, max}
 use lib.Dec.{leb, ltb, eqb}
 use lib.Ieee.{Float, le}
+use Rattle.limits.specs.Limits.{maxStep, maxTof}
 use Rattle.numeric.specs.Arith.{_⊕_, _⊖_, _⊗_, 𝟎, ½, 𝟏, indexF}
 use Rattle.numeric.specs.Numeric.{castF}
-use Rattle.numeric.specs.Refusal.{firstOf}
+use Rattle.refusal.specs.Refusal.{Check, firstOf}
 use Rattle.params.specs.declared.RowPlace.{RowPlace}
 use Rattle.tof.specs.declared.TofScale.{TofScale}
 use Rattle.tof.specs.declared.inner.Span.{Span}
@@ -76,11 +77,11 @@ rowPlace s i =
 
 -- number 4: a step from 1 to 65,536
 unfoldable pub soundStep : ℕ → Bool
-soundStep step = leb 1 step && leb step 65536
+soundStep step = leb 1 step && leb step maxStep
 
 -- number 5: both ends to 4,194,303
 unfoldable pub soundEnds : TofScale → Bool
-soundEnds s = leb (s .«tof_min») 4194303 && leb (s .«tof_max») 4194303
+soundEnds s = leb (s .«tof_min») maxTof && leb (s .«tof_max») maxTof
 
 -- number 22: the ends are multiples of the step and not reversed, and the count of bins is theirs; no scale has a step of 0
 unfoldable pub agreeing : TofScale → Bool
@@ -95,15 +96,21 @@ pub record Sound (s : TofScale) : Type 0 where
   pub ends : soundEnds s ≡ true
   pub agree : agreeing s ≡ true
 
--- The number for a call on a scale. A call may have a value of its own that number 4 holds to a range, and TOF values that
--- number 5 does: `value` and `tofs` say that those are in range.
-unfoldable pub scaleNumber : TofScale → Bool → Bool → ℕ
-scaleNumber s value tofs =
-    firstOf
-    (record { number = 4; applies = not (soundStep (s .«tof_step») && value) }
+-- The checks of a call on a scale, and the number that they give. A call may have a value of its own that number 4 holds to a
+-- range, and TOF values that number 5 does: `value` and `tofs` say that those are in range.
+abbrev pub scaleChecks : TofScale → Bool → Bool → List Check
+scaleChecks s value tofs =
+    record { number = 4; applies = not (soundStep (s .«tof_step») && value) }
     ∷ record { number = 5; applies = not (soundEnds s && tofs) }
     ∷ record { number = 22; applies = not (agreeing s) }
-    ∷ [])
+    ∷ []
+
+unfoldable pub scaleNumber : TofScale → Bool → Bool → ℕ
+scaleNumber s value tofs = firstOf (scaleChecks s value tofs)
+
+pub scale-number-is : (s : TofScale) (value tofs : Bool) → scaleNumber s value tofs ≡ firstOf (scaleChecks s value tofs)
+unfolding scaleNumber
+scale-number-is s value tofs = refl
 
 -- ---- a scale of TOF values
 

@@ -1,33 +1,62 @@
 -- What the definitions of the scale come to, for a reader and for the proofs. Assumes nothing.
-use mathlib.Core.Path.{_≡_, refl, sym, _∙_, subst}
+use mathlib.Core.Path.{_≡_, refl, sym, _∙_, ap, subst}
 use mathlib.Core.Bool.{Bool, true, false, cond, not, _&&_}
 use mathlib.Core.List.{List, [], _∷_}
+use mathlib.Core.Option.{Option, none, some}
 use Prim.Native.Nat.{ℕ, zero, suc, _+_, _-_, _*_, _/_, _%_, _≤_, _<_, min, max}
 use native.Mathlib.Nat.{div-le-self, le-div-iff-mul-le, div-lt-iff-lt-mul, div-mul-le-self, div-add-mod', dvd-sub, dvd-of-mod-eq-zero, mod-eq-zero-of-dvd, mul-mod-left, mul-le-mul-right, add-mul}
 use native.Mathlib.Omega.{arith}
-use borrow.Author.Tests.{leb-true, leb-false, le-leb, lt-leb, lt-ltb, ltb-true, eq-eqb, eqb-true}
+use borrow.Author.Tests.{leb-true, leb-false, le-leb, lt-leb, lt-ltb, ltb-true, eq-eqb, eqb-true, not-false}
 use lib.Dec.{leb, ltb, eqb}
 use lib.ListN.{length, getD}
-use Rattle.numeric.specs.Refusal.{firstOf}
-use Rattle.params.specs.Params.{allUpTo}
+use Rattle.refusal.specs.Refusal.{firstOf, ascendingFrom, Lowest}
+use Rattle.refusal.specs.RefusalLaws.{lowest-by, none-by, appliesFor}
+use Rattle.refusal.specs.Bools.{clash, both, all5}
+use Rattle.refusal.specs.Answers.{Says}
+use Rattle.refusal.specs.AnswersLaws.{fromOption}
+use Rattle.limits.specs.Limits.{maxStep, maxTof, maxRows, maxTofBound}
+use Rattle.params.specs.Params.{allUpTo, soundTof}
 use Rattle.tof.specs.declared.TofScale.{TofScale}
 use Rattle.tof.specs.declared.inner.Span.{Span}
 use Rattle.tof.specs.declared.BuildAnswer.{BuildAnswer}
-use Rattle.tof.specs.TofAnswers.{buildNumber, buildAnswer}
-use Rattle.tof.specs.Tof.{Sound, edge, inScale, binOf, lastBin, windowBetween, windowBins, rowPlace, soundStep, soundEnds, agreeing, scaleNumber, lowest, highest, rounded, scaleOf}
+use Rattle.tof.specs.TofAnswers.{buildChecks, buildNumber, build-number-is, scaleFrom, buildSays, buildAnswer}
+use Rattle.tof.specs.Tof.{Sound, edge, inScale, binOf, lastBin, windowBetween, windowBins, rowPlace, soundStep, soundEnds, agreeing, scaleChecks, scaleNumber, scale-number-is, lowest, highest, rounded, scaleOf}
 
-both : (a b : Bool) → (a && b) ≡ true → (a ≡ true) × (b ≡ true)
-both true b h = (refl, h)
-both false b h = absurd (subst (λ (t : Bool). lib.Dec.T t) (sym h) tt)
+-- ---- numbers
+
+module _ (s : TofScale) (value tofs : Bool) where
+  ascending : ascendingFrom 0 (scaleChecks s value tofs) ≡ true
+  unfolding ascendingFrom
+  ascending = refl
+
+  -- the number of a call is the lowest that applies
+  pub number-lowest : 0 < scaleNumber s value tofs → Lowest (scaleChecks s value tofs) (scaleNumber s value tofs)
+  number-lowest h = lowest-by (scaleChecks s value tofs) (scale-number-is s value tofs) ascending h
+
+  -- where it is 0, the check with the number n does not apply
+  none-for : (n : ℕ) → scaleNumber s value tofs ≡ 0 → appliesFor n (scaleChecks s value tofs) ≡ false
+  none-for n z = none-by n (scaleChecks s value tofs) (scale-number-is s value tofs) ascending z
+
+module _ (ts : List ℕ) (step : ℕ) where
+  build-ascending : ascendingFrom 0 (buildChecks ts step) ≡ true
+  unfolding ascendingFrom
+  build-ascending = refl
+
+  -- the same of building
+  pub build-lowest : 0 < buildNumber ts step → Lowest (buildChecks ts step) (buildNumber ts step)
+  build-lowest h = lowest-by (buildChecks ts step) (build-number-is ts step) build-ascending h
+
+  none-builds : (n : ℕ) → buildNumber ts step ≡ 0 → appliesFor n (buildChecks ts step) ≡ false
+  none-builds n z = none-by n (buildChecks ts step) (build-number-is ts step) build-ascending z
 
 -- ---- soundness
 
 -- a sound scale in plain numbers
 pub record Plain (s : TofScale) : Type 0 where
   pub step-low : 1 ≤ s .«tof_step»
-  pub step-high : s .«tof_step» ≤ 65536
-  pub min-high : s .«tof_min» ≤ 4194303
-  pub max-high : s .«tof_max» ≤ 4194303
+  pub step-high : s .«tof_step» ≤ maxStep
+  pub min-high : s .«tof_min» ≤ maxTof
+  pub max-high : s .«tof_max» ≤ maxTof
   pub ordered : s .«tof_min» ≤ s .«tof_max»
   pub min-multiple : s .«tof_min» % s .«tof_step» ≡ 0
   pub max-multiple : s .«tof_max» % s .«tof_step» ≡ 0
@@ -36,39 +65,30 @@ pub record Plain (s : TofScale) : Type 0 where
 pub plain : (s : TofScale) → Sound s → Plain s
 unfolding soundStep soundEnds agreeing
 plain s h =
-    let p = both (leb 1 (s .«tof_step»)) (leb (s .«tof_step») 65536) (h .step) in
-    let e = both (leb (s .«tof_min») 4194303) (leb (s .«tof_max») 4194303) (h .ends) in
-    let a4 = both _ (eqb (s .«num_bins») (binOf s (s .«tof_max») + 1)) (h .agree) in
-    let a3 = both _ (eqb (s .«tof_max» % s .«tof_step») 0) (a4 .0) in
-    let a2 = both _ (eqb (s .«tof_min» % s .«tof_step») 0) (a3 .0) in
-    let a1 = both (ltb 0 (s .«tof_step»)) (leb (s .«tof_min») (s .«tof_max»)) (a2 .0) in
+    let p = both (leb 1 (s .«tof_step»)) (h .step) in
+    let e = both (leb (s .«tof_min») maxTof) (h .ends) in
+    let a = all5 (ltb 0 (s .«tof_step»)) (h .agree) in
     record {
       step-low = leb-true 1 (s .«tof_step») (p .0);
       step-high = leb-true _ _ (p .1);
       min-high = leb-true _ _ (e .0);
       max-high = leb-true _ _ (e .1);
-      ordered = leb-true _ _ (a1 .1);
-      min-multiple = eqb-true _ _ (a2 .1);
-      max-multiple = eqb-true _ _ (a3 .1);
-      count = eqb-true _ _ (a4 .1);
+      ordered = leb-true _ _ (a .1);
+      min-multiple = eqb-true _ _ (a .2);
+      max-multiple = eqb-true _ _ (a .3);
+      count = eqb-true _ _ (a .4);
     }
 
 -- from 1 to 4,194,304 bins
-pub bins-held : (s : TofScale) → Sound s → (1 ≤ s .«num_bins») × (s .«num_bins» ≤ 4194304)
+pub bins-held : (s : TofScale) → Sound s → (1 ≤ s .«num_bins») × (s .«num_bins» ≤ maxRows)
 bins-held s h = let p = plain s h in let d = div-le-self (s .«tof_max» - s .«tof_min») (s .«tof_step») in (omega arith, omega arith)
 
 -- no number applies exactly when the scale is sound and the call's own values are in range
 pub no-number : (s : TofScale) (value tofs : Bool) → scaleNumber s value tofs ≡ 0 → Sound s × (value ≡ true) × (tofs ≡ true)
-unfolding scaleNumber firstOf
-no-number s value tofs h = go (soundStep (s .«tof_step») && value) (soundEnds s && tofs) (agreeing s) refl refl refl h
-  where
-    go : (a b c : Bool) → (soundStep (s .«tof_step») && value) ≡ a → (soundEnds s && tofs) ≡ b → agreeing s ≡ c
-        → _≡_ {A = ℕ} (cond (not a) 4 (cond (not b) 5 (cond (not c) 22 0))) 0 → Sound s × (value ≡ true) × (tofs ≡ true)
-    go false b c ea eb ec e = absurd (omega arith)
-    go true false c ea eb ec e = absurd (omega arith)
-    go true true false ea eb ec e = absurd (omega arith)
-    go true true true ea eb ec e =
-        let p = both _ _ ea in let q = both _ _ eb in (record { step = p .0; ends = q .0; agree = ec }, p .1, q .1)
+no-number s value tofs h =
+    let p = both (soundStep (s .«tof_step»)) (not-false _ (none-for s value tofs 4 h)) in
+    let q = both (soundEnds s) (not-false _ (none-for s value tofs 5 h)) in
+    (record { step = p .0; ends = q .0; agree = not-false _ (none-for s value tofs 22 h) }, p .1, q .1)
 
 pub sound-number : (s : TofScale) → Sound s → scaleNumber s true true ≡ 0
 unfolding scaleNumber firstOf
@@ -80,7 +100,7 @@ pub upper-edge : (s : TofScale) (i : ℕ) → edge s (i + 1) ≡ edge s i + s .�
 upper-edge s i = let e : (i + 1) * s .«tof_step» ≡ i * s .«tof_step» + 1 * s .«tof_step» = add-mul i 1 (s .«tof_step») in omega arith
 
 pub scale-above : (s : TofScale) (t : ℕ) → inScale s t ≡ true → s .«tof_min» ≤ t
-scale-above s t b = leb-true (s .«tof_min») t (both (leb (s .«tof_min») t) (leb t (s .«tof_max»)) b .0)
+scale-above s t b = leb-true (s .«tof_min») t (both (leb (s .«tof_min») t) b .0)
 
 bins-rise : (k x y : ℕ) → 0 < k → x ≤ y → x / k ≤ y / k
 bins-rise k x y p h = le-div-iff-mul-le p .1 (let d : x / k * k ≤ x = div-mul-le-self x k in omega arith)
@@ -94,8 +114,21 @@ module _ (s : TofScale) (h : Sound s) where
       let m : i * s .«tof_step» ≤ s .«tof_max» - s .«tof_min» = le-div-iff-mul-le (p .step-low) .0 k in
       omega arith
 
-  pub edges-held : (i : ℕ) → i < s .«num_bins» → edge s (i + 1) ≤ 4259839
+  pub edges-held : (i : ℕ) → i < s .«num_bins» → edge s (i + 1) ≤ maxTofBound
   edges-held i b = let p = plain s h in let e = edge-le i b in let u = upper-edge s i in omega arith
+
+  -- a row's TOF values are such as number 5 lets pass; its bounds are not reversed, as they stand
+  pub row-held : (i : ℕ) → i < s .«num_bins» → soundTof (rowPlace s i) ≡ true
+  unfolding soundTof
+  row-held i b =
+      let p = plain s h in
+      let e = edges-held i b in
+      let u = upper-edge s i in
+      rw (
+        le-leb (edge s i + (s .«tof_step» + 1) / 2) maxTofBound (omega (arith, p .step-low)),
+        le-leb (edge s i) maxTofBound (omega arith),
+        le-leb (edge s i + s .«tof_step») maxTofBound (omega arith),
+      )
 
   -- the last bin begins at the highest TOF
   pub last-edge : edge s (lastBin s) ≡ s .«tof_max»
@@ -116,7 +149,7 @@ module _ (s : TofScale) (h : Sound s) where
 
   -- a TOF in the scale has a bin, and stands between its edges
   pub bin-below : (t : ℕ) → inScale s t ≡ true → binOf s t < s .«num_bins»
-  bin-below t b = bin-within t (leb-true t (s .«tof_max») (both (leb (s .«tof_min») t) (leb t (s .«tof_max»)) b .1))
+  bin-below t b = bin-within t (leb-true t (s .«tof_max») (both (leb (s .«tof_min») t) b .1))
 
   pub bin-edges : (t : ℕ) → inScale s t ≡ true → (edge s (binOf s t) ≤ t) × (t < edge s (binOf s t + 1))
   bin-edges t b =
@@ -227,7 +260,7 @@ bounds (t ∷ ts) (suc i) h = let r = bounds ts i (omega arith) in (omega arith,
 pub no-scale-one : (ts : List ℕ) → highest ts ≤ lowest ts → (i j : ℕ) → i < length ts → j < length ts → getD ts i 0 ≡ getD ts j 0
 no-scale-one ts h i j a b = let p = bounds ts i a in let q = bounds ts j b in omega arith
 
-same : (v : ℕ) (ts : List ℕ) → v ≤ 4194303 → ((i : ℕ) → i < length ts → getD ts i 0 ≡ v) → (highest ts ≤ v) × (v ≤ lowest ts)
+same : (v : ℕ) (ts : List ℕ) → v ≤ maxTof → ((i : ℕ) → i < length ts → getD ts i 0 ≡ v) → (highest ts ≤ v) × (v ≤ lowest ts)
 unfolding lowest highest
 same v [] u h = (omega arith, omega arith)
 same v (t ∷ ts) u h =
@@ -235,26 +268,26 @@ same v (t ∷ ts) u h =
     let r = same v ts u (λ (i : ℕ) (k : i < length ts). h (suc i) (omega arith)) in
     (omega arith, omega arith)
 
-pub one-no-scale : (ts : List ℕ) → allUpTo 4194303 ts ≡ true
+pub one-no-scale : (ts : List ℕ) → allUpTo maxTof ts ≡ true
     → ((i j : ℕ) → i < length ts → j < length ts → getD ts i 0 ≡ getD ts j 0) → highest ts ≤ lowest ts
 unfolding lowest highest
 one-no-scale [] u h = omega arith
 one-no-scale (t ∷ ts) u h =
-    let k : highest (t ∷ ts) ≤ 4194303 = leb-true _ _ (sym (up-to-highest 4194303 (t ∷ ts)) ∙ u) in
+    let k : highest (t ∷ ts) ≤ maxTof = leb-true _ _ (sym (up-to-highest maxTof (t ∷ ts)) ∙ u) in
     let r = same t (t ∷ ts) (omega arith) (λ (i : ℕ) (l : i < length (t ∷ ts)). h i 0 l (omega arith)) in
     omega arith
 
 pub step-above : (step : ℕ) → soundStep step ≡ true → 0 < step
 unfolding soundStep
-step-above step p = leb-true 1 step (both (leb 1 step) (leb step 65536) p .0)
+step-above step p = leb-true 1 step (both (leb 1 step) p .0)
 
-scale-sound : (lo hi step : ℕ) → soundStep step ≡ true → lo ≤ hi → hi ≤ 4194303 → Sound (scaleOf lo hi step)
+scale-sound : (lo hi step : ℕ) → soundStep step ≡ true → lo ≤ hi → hi ≤ maxTof → Sound (scaleOf lo hi step)
 unfolding scaleOf soundEnds agreeing
 scale-sound lo hi step p o u =
     let k = step-above step p in
     record {
       step = p;
-      ends = rw (le-leb (rounded step lo) 4194303 (omega arith), le-leb (rounded step hi) 4194303 (omega arith));
+      ends = rw (le-leb (rounded step lo) maxTof (omega arith), le-leb (rounded step hi) maxTof (omega arith));
       agree =
           rw (
             lt-ltb 0 step k,
@@ -266,22 +299,18 @@ scale-sound lo hi step p o u =
     }
 
 -- a scale that is built is sound, so that no entry refuses it for its numbers
-pub built-sound : (tofs : List ℕ) (step : ℕ) (s : TofScale) → buildAnswer tofs step ≡ BuildAnswer.Scale s → Sound s
-unfolding buildAnswer buildNumber firstOf
-built-sound tofs step s h =
-    go (ltb 16777216 (length tofs)) (soundStep step) (allUpTo 4194303 tofs) (ltb (lowest tofs) (highest tofs)) refl refl refl h
+pub built-sound : (tofs : List ℕ) (step : ℕ) (s : TofScale) → buildAnswer tofs step ≡ buildSays (BuildAnswer.Scale s) → Sound s
+unfolding buildAnswer
+built-sound tofs step s h = go (ltb (lowest tofs) (highest tofs)) refl (ap (λ (a : Says (Option TofScale)). fromOption (λ o. o) none (a .values)) h)
   where
-    go : (a b c d : Bool) → soundStep step ≡ b → allUpTo 4194303 tofs ≡ c → ltb (lowest tofs) (highest tofs) ≡ d
-        → (let n = cond a 2 (cond (not b) 4 (cond (not c) 5 0)) in
-        cond (eqb n 0) (cond d (BuildAnswer.Scale (scaleOf (lowest tofs) (highest tofs) step)) BuildAnswer.NoScale) (BuildAnswer.Refused n))
-        ≡ BuildAnswer.Scale s
-        → Sound s
-    go true b c d eb ec ed e = let z : _≡_ {A = ℕ} 0 1 = cc in absurd (omega arith)
-    go false false c d eb ec ed e = let z : _≡_ {A = ℕ} 0 1 = cc in absurd (omega arith)
-    go false true false d eb ec ed e = let z : _≡_ {A = ℕ} 0 1 = cc in absurd (omega arith)
-    go false true true false eb ec ed e = let z : _≡_ {A = ℕ} 0 1 = cc in absurd (omega arith)
-    go false true true true eb ec ed e =
-        let o : lowest tofs < highest tofs = ltb-true _ _ ed in
-        let u : highest tofs ≤ 4194303 = leb-true _ _ (sym (up-to-highest 4194303 tofs) ∙ ec) in
-        let k : scaleOf (lowest tofs) (highest tofs) step ≡ s = cc in
-        subst Sound k (scale-sound (lowest tofs) (highest tofs) step eb (omega arith) u)
+    n : buildNumber tofs step ≡ 0
+    n = ap (λ (a : Says (Option TofScale)). a .number) h
+
+    go : (d : Bool) → ltb (lowest tofs) (highest tofs) ≡ d
+        → fromOption (λ o. o) none (cond (eqb (buildNumber tofs step) 0) (some (cond d (some (scaleOf (lowest tofs) (highest tofs) step)) none)) none) ≡ some s → Sound s
+    go true e v =
+        let o : lowest tofs < highest tofs = ltb-true _ _ e in
+        let u : highest tofs ≤ maxTof = leb-true _ _ (sym (up-to-highest maxTof tofs) ∙ not-false _ (none-builds tofs step 5 n)) in
+        let k : scaleOf (lowest tofs) (highest tofs) step ≡ s = ap (fromOption (λ (t : TofScale). t) s) (rw n at v) in
+        subst Sound k (scale-sound (lowest tofs) (highest tofs) step (not-false _ (none-builds tofs step 4 n)) (omega arith) u)
+    go false e v = clash false (ap (fromOption (λ (t : TofScale). true) false) (rw n at v)) refl

@@ -4,6 +4,7 @@ use params::RowPlace;
 ghost use mathlib.Core.Path.{_≡_};
 ghost use mathlib.Core.Bool.{true};
 ghost use Prim.Native.Nat.{_≤_, _<_, min, max};
+ghost use Rattle.limits.specs.Limits.{maxTof, maxBinPlace};
 ghost use Rattle.numeric.specs.Numeric.{inRange};
 ghost use Rattle.tof.specs.Tof.{Sound, edge, inScale, binOf, windowBins, centerF, centerAtF, rowPlace, soundStep, soundEnds, agreeing, scaleNumber, endsOf, scaleOf};
 
@@ -17,13 +18,13 @@ pub struct Span {
 pub fn sound_step(step: u32) -> bool
     ensures { λ r. ⌜ r ≡ soundStep step ⌝ }
 {
-    (1 <= step) & (step <= 65536)
+    (1 <= step) & (step <= limits::MAX_STEP)
 }
 
 pub fn sound_ends(s: TofScale) -> bool
     ensures { λ r. ⌜ r ≡ soundEnds s ⌝ }
 {
-    (s.tof_min <= 4194303) & (s.tof_max <= 4194303)
+    (s.tof_min <= limits::MAX_TOF) & (s.tof_max <= limits::MAX_TOF)
 }
 
 pub fn agrees(s: TofScale) -> bool
@@ -109,7 +110,7 @@ pub fn center_of(s: TofScale, i: u32) -> f32
 
 // The centre at a place between bins.
 pub fn center_between(s: TofScale, mu: f32) -> f32
-    requires { ⌜ Sound s × (inRange 0x4a80_0000 mu ≡ true) ⌝ }
+    requires { ⌜ Sound s × (inRange maxBinPlace mu ≡ true) ⌝ }
     ensures { λ r. ⌜ r ≡ centerAtF s mu ⌝ }
 {
     if mu <= 0.0 {
@@ -160,7 +161,7 @@ pub fn ends_of(tofs: &[u32]) -> Span
 
 // The scale from the lowest value to the highest.
 pub fn scale_of(lo: u32, hi: u32, step: u32) -> TofScale
-    requires { ⌜ (0 < step) × (lo ≤ hi) × (hi ≤ 4194303) ⌝ }
+    requires { ⌜ (0 < step) × (lo ≤ hi) × (hi ≤ maxTof) ⌝ }
     ensures { λ r. ⌜ r ≡ scaleOf lo hi step ⌝ }
 {
     let tof_min = lo - lo % step;

@@ -2,7 +2,7 @@
 pub mod inner;
 
 ghost use mathlib.Core.Path.{_≡_};
-ghost use Rattle.tof.specs.TofAnswers.{buildAnswer, binAnswer, rangeAnswer, centerAnswer, centerAtAnswer, boundsAnswer};
+ghost use Rattle.tof.specs.TofAnswers.{buildSays, buildAnswer, binSays, binAnswer, rangeSays, rangeAnswer, centerSays, centerAnswer, centerAtAnswer, boundsSays, boundsAnswer};
 
 // The lowest and the highest TOF, rounded down to the step, and the count of bins.
 pub struct TofScale {
@@ -42,16 +42,16 @@ pub enum BoundsAnswer {
 impl TofScale {
     // The scale of the TOF values of all frames.
     pub fn build_from_frames(tofs: &[u32], tof_step: u32) -> BuildAnswer
-        ensures { λ r. ⌜ r ≡ buildAnswer (now (tofs .entry)) «tof_step» ⌝ }
+        ensures { λ r. ⌜ buildSays r ≡ buildAnswer (now (tofs .entry)) «tof_step» ⌝ }
     {
-        if tofs.len() > 16777216 {
+        if tofs.len() > limits::MAX_POINTS {
             return BuildAnswer::Refused(2);
         }
         if !inner::sound_step(tof_step) {
             return BuildAnswer::Refused(4);
         }
         let e = inner::ends_of(tofs);
-        if e.hi > 4194303 {
+        if e.hi > limits::MAX_TOF {
             return BuildAnswer::Refused(5);
         }
         if e.lo >= e.hi {
@@ -62,9 +62,9 @@ impl TofScale {
 
     // The bin of a TOF value.
     pub fn index_of_tof(self, tof: u32) -> BinAnswer
-        ensures { λ r. ⌜ r ≡ binAnswer self tof ⌝ }
+        ensures { λ r. ⌜ binSays r ≡ binAnswer self tof ⌝ }
     {
-        let n = inner::number(self, true, tof <= 4194303);
+        let n = inner::number(self, true, tof <= limits::MAX_TOF);
         if n != 0 {
             return BinAnswer::Refused(n);
         }
@@ -76,9 +76,13 @@ impl TofScale {
 
     // The first and the last bin of a TOF window.
     pub fn index_range_for_tof_window(self, a: u32, b: u32) -> RangeAnswer
-        ensures { λ r. ⌜ r ≡ rangeAnswer self a b ⌝ }
+        ensures { λ r. ⌜ rangeSays r ≡ rangeAnswer self a b ⌝ }
     {
-        let n = inner::number(self, true, (a <= 4259839) & (b <= 4259839));
+        let n = inner::number(
+            self,
+            true,
+            (a <= limits::MAX_TOF_BOUND) & (b <= limits::MAX_TOF_BOUND),
+        );
         if n != 0 {
             return RangeAnswer::Refused(n);
         }
@@ -88,7 +92,7 @@ impl TofScale {
 
     // The centre of a bin.
     pub fn center(self, i: u32) -> CenterAnswer
-        ensures { λ r. ⌜ r ≡ centerAnswer self i ⌝ }
+        ensures { λ r. ⌜ centerSays r ≡ centerAnswer self i ⌝ }
     {
         let n = inner::number(self, i < self.num_bins, true);
         if n != 0 {
@@ -99,9 +103,9 @@ impl TofScale {
 
     // The centre at a place between bins.
     pub fn center_at(self, mu: f32) -> CenterAnswer
-        ensures { λ r. ⌜ r ≡ centerAtAnswer self mu ⌝ }
+        ensures { λ r. ⌜ centerSays r ≡ centerAtAnswer self mu ⌝ }
     {
-        let n = inner::number(self, numeric::in_range(mu, 0x4a80_0000), true);
+        let n = inner::number(self, numeric::in_range(mu, limits::MAX_BIN_PLACE), true);
         if n != 0 {
             return CenterAnswer::Refused(n);
         }
@@ -110,7 +114,7 @@ impl TofScale {
 
     // The edges of a bin.
     pub fn tof_bounds_for_row(self, i: u32) -> BoundsAnswer
-        ensures { λ r. ⌜ r ≡ boundsAnswer self i ⌝ }
+        ensures { λ r. ⌜ boundsSays r ≡ boundsAnswer self i ⌝ }
     {
         let n = inner::number(self, i < self.num_bins, true);
         if n != 0 {

@@ -1,62 +1,28 @@
-use Rattle.area.specs.Area.{areaAnswer}
-use borrow.Author.Tests.{lt-ltb, le-ltb, not-true, not-false}
+use borrow.Author.Tests.{ltb-false}
 use mathlib.Core.Path.{sym, _∙_}
-use mathlib.Core.Logic.{⊎-elim}
+use native.Mathlib.Omega.{arith}
 use borrow.Author.Needs.{needs}
+use lib.ListN.{length}
+use Rattle.refusal.specs.AnswersLaws.{says-number, says-values}
+use Rattle.limits.specs.Limits.{maxSamples}
+use Rattle.area.specs.AreaLaws.{none-for}
 use Rattle.area.proofs.trapezoid_area_fractional.Statement.{statement}
 use Rattle.area.proofs.trapezoid_area_fractional.Tie as tie
 
+number-requires : tie.Need-number-requires
+number-requires c κs = search needs
+
 returns : tie.Need-returns
-unfolding areaAnswer
-returns c = rw (lt-ltb _ _ (c .if1 .taken))
-
-all-in-range-requires : tie.Need-all-in-range-requires
-all-in-range-requires c κs = search needs
-
-returns-2 : tie.Need-returns-2
-unfolding areaAnswer
-returns-2 c = rw (le-ltb _ _ (c .before .before .if1 .left), sym (c .before .all-in-range .ensures) ∙ not-true _ (c .if2 .taken))
-
-in-range-requires : tie.Need-in-range-requires
-in-range-requires c κs = search needs
-
-in-range-requires-2 : tie.Need-in-range-requires-2
-in-range-requires-2 c κs = search needs
+returns c = says-number _ (c .before .number .ensures) (c .if1 .taken)
 
 trapezoid-area-fractional-requires : tie.Need-trapezoid-area-fractional-requires
-trapezoid-area-fractional-requires c κs = search needs
+trapezoid-area-fractional-requires c κs = let a = c .before .before .before .args in
+    omega (arith, ltb-false maxSamples (length (a .y .now)) (none-for (a .y .now) (a .x0) (a .x1) 2 (sym (c .before .number .ensures) ∙ c .if1 .left)))
 
-returns-3 : tie.Need-returns-3
-unfolding areaAnswer
-returns-3 c = let p = c .before .before .before in
-    let b = p .before .before .before in
-    rw (
-      le-ltb _ _ (b .before .if1 .left),
-      sym (b .all-in-range .ensures) ∙ not-false _ (p .before .before .if2 .left),
-      sym (p .before .in-range .ensures) ∙ p .if3 .taken,
-      sym (c .before .before .in-range2 .ensures) ∙ c .before .if4 .taken,
-      c .trapezoid-area-fractional .ensures,
-    )
-
-returns-4 : tie.Need-returns-4
-unfolding areaAnswer
-returns-4 c = let b = c .before .before .before in
-    let p = c .before in
-    rw (le-ltb _ _ (b .before .if1 .left), sym (b .all-in-range .ensures) ∙ not-false _ (p .before .if2 .left))
-    (⊎-elim
-    (λ w. rw (sym (p .in-range .ensures) ∙ w .0 .taken, sym (w .1 .ensures) ∙ w .2 .left))
-    (λ w. rw (sym (p .in-range .ensures) ∙ w .left))
-    (c .if3 .came))
+returns-2 : tie.Need-returns-2
+returns-2 c = let d = c .before in says-values _ (d .before .number .ensures) (d .if1 .left) (c .trapezoid-area-fractional .ensures)
 
 pub trapezoid-area-fractional-spec : {M : Type 1} → statement M
 trapezoid-area-fractional-spec =
     tie.close
-    (tie.spec
-    returns
-    all-in-range-requires
-    returns-2
-    in-range-requires
-    in-range-requires-2
-    trapezoid-area-fractional-requires
-    returns-3
-    returns-4)
+    (tie.spec number-requires returns trapezoid-area-fractional-requires returns-2)

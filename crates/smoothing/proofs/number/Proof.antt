@@ -1,50 +1,38 @@
-use borrow.Author.Tests.{lt-ltb, le-ltb, not-true, not-false}
-use mathlib.Core.Path.{sym, _∙_}
+use borrow.Author.Tests.{lt-ltb, le-ltb}
+use mathlib.Core.Path.{refl}
 use borrow.Author.Needs.{needs}
-use Rattle.numeric.specs.Refusal.{firstOf}
-use Rattle.smoothing.specs.Smoothing.{smoothNumber}
+use Rattle.refusal.proofs.Walk.{Left, refused, past, accepted, by}
+use Rattle.smoothing.specs.Smoothing.{smoothChecks, smoothNumber, number-is}
 use Rattle.smoothing.proofs.number.Statement.{statement}
 use Rattle.smoothing.proofs.number.Tie as tie
 
-returns : tie.Need-returns
-unfolding smoothNumber firstOf
-returns c = rw (lt-ltb _ _ (c .if1 .taken))
+-- the checks that are left at each place
+abbrev all : tie.Start → Left
+all s = let v = s .args .v .now in
+    let ws = s .args .weights .now in
+    record {
+      checks = smoothChecks v ws (s .args .scratch);
+      number = smoothNumber v ws (s .args .scratch);
+      answer = number-is v ws (s .args .scratch);
+    }
 
-all-in-range-requires : tie.Need-all-in-range-requires
-all-in-range-requires c κs = search needs
+abbrev past1 : tie.Else1 → Left
+past1 c = past (all (c .before .before .before)) (le-ltb _ _ (c .if1 .left))
 
-returns-2 : tie.Need-returns-2
-unfolding smoothNumber firstOf
-returns-2 c = rw (le-ltb _ _ (c .before .before .if1 .left), sym (c .before .all-in-range .ensures) ∙ not-true _ (c .if2 .taken))
+abbrev past2 : tie.Else2 → Left
+past2 c = past (past1 (c .before .before)) (by (c .before .all-in-range .ensures) (c .if2 .left))
 
-sound-weights-requires : tie.Need-sound-weights-requires
-sound-weights-requires c κs = search needs
-
-returns-3 : tie.Need-returns-3
-unfolding smoothNumber firstOf
-returns-3 c = let b = c .before .before .before in
-    rw (le-ltb _ _ (b .before .if1 .left), sym (b .all-in-range .ensures) ∙ not-false _ (c .before .before .if2 .left), sym (c .before .sound-weights .ensures) ∙ not-true _ (c .if3 .taken))
-
-returns-4 : tie.Need-returns-4
-unfolding smoothNumber firstOf
-returns-4 c = let d = c .before in
-    let b = d .before .before .before in
-    rw (le-ltb _ _ (b .before .if1 .left), sym (b .all-in-range .ensures) ∙ not-false _ (d .before .before .if2 .left), sym (d .before .sound-weights .ensures) ∙ not-false _ (d .if3 .left), lt-ltb _ _ (c .if4 .taken))
-
-returns-5 : tie.Need-returns-5
-unfolding smoothNumber firstOf
-returns-5 c = let d = c .before in
-    let b = d .before .before .before in
-    rw (le-ltb _ _ (b .before .if1 .left), sym (b .all-in-range .ensures) ∙ not-false _ (d .before .before .if2 .left), sym (d .before .sound-weights .ensures) ∙ not-false _ (d .if3 .left), le-ltb _ _ (c .if4 .left))
+abbrev past3 : tie.Else3 → Left
+past3 c = past (past2 (c .before .before)) (by (c .before .sound-weights .ensures) (c .if3 .left))
 
 pub number-spec : {M : Type 1} → statement M
 number-spec =
     tie.close
     (tie.spec
-    returns
-    all-in-range-requires
-    returns-2
-    sound-weights-requires
-    returns-3
-    returns-4
-    returns-5)
+    (λ c. refused (all (c .before .before .before)) (lt-ltb _ _ (c .if1 .taken)))
+    (λ c κs. search needs)
+    (λ c. refused (past1 (c .before .before)) (by (c .before .all-in-range .ensures) (c .if2 .taken)))
+    (λ c κs. search needs)
+    (λ c. refused (past2 (c .before .before)) (by (c .before .sound-weights .ensures) (c .if3 .taken)))
+    (λ c. refused (past3 (c .before)) (lt-ltb _ _ (c .if4 .taken)))
+    (λ c. accepted (past (past3 (c .before)) (le-ltb _ _ (c .if4 .left))) refl))

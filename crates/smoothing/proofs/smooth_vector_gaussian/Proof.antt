@@ -4,7 +4,6 @@ use mathlib.Core.Path.{refl, sym, _∙_}
 use native.Mathlib.Omega.{arith}
 use borrow.Author.Needs.{needs}
 use lib.ListN.{length}
-use Rattle.smoothing.specs.Answer.{smoothAnswer}
 use Rattle.smoothing.specs.Smoothing.{smoothed}
 use Rattle.smoothing.proofs.Laws.{none-applies, smoothed-length}
 use Rattle.smoothing.proofs.smooth_vector_gaussian.Statement.{statement}
@@ -17,7 +16,6 @@ same-length : tie.Need-same-length
 same-length c = search needs
 
 returns : tie.Need-returns
-unfolding smoothAnswer
 returns c = rw (← c .before .number .ensures, ne-eqb _ _ (c .if1 .taken)) (refl, (refl, refl))
 
 smooth-requires : tie.Need-smooth-requires
@@ -40,7 +38,6 @@ same-length-3 : tie.Need-same-length-3
 same-length-3 c = search needs
 
 returns-2 : tie.Need-returns-2
-unfolding smoothAnswer
 returns-2 c = let m = c .before .before .before .before .before .before .before in
     let e = m .before .before .before in
     let s = e .before .before .before .before .before .before in

@@ -10,14 +10,14 @@ returns : tie.Need-returns
 unfolding between
 returns c = rw (c .if1 .taken)
 
-cast-sat-requires : tie.Need-cast-sat-requires
-cast-sat-requires c κs = search needs
+cast-near-requires : tie.Need-cast-near-requires
+cast-near-requires c κs = search needs
 
 cast-i0 : tie.Need-cast-i0
 cast-i0 c = search needs
 
-cast-sat-requires-2 : tie.Need-cast-sat-requires-2
-cast-sat-requires-2 c κs = search needs
+cast-near-requires-2 : tie.Need-cast-near-requires-2
+cast-near-requires-2 c κs = search needs
 
 cast-i1 : tie.Need-cast-i1
 cast-i1 c = search needs
@@ -35,8 +35,8 @@ returns-2 : tie.Need-returns-2
 unfolding between
 returns-2 c = let b = c .before .before in
     let s = b .before .before .before .before .before .args in
-    let p = b .before .before .cast-sat .ensures in
-    let q = b .before .cast-sat2 .ensures in
+    let p = b .before .before .cast-near .ensures in
+    let q = b .before .cast-near2 .ensures in
     let e : castF (s .x0) ≡ castF (s .x1) = sym p ∙ c .before .if2 .taken ∙ q in
     rw (b .before .before .before .if1 .left, eq-eqb (castF (s .x0)) (castF (s .x1)) e) (simp (c .within-segment .ensures, b .smaller .ensures, p))
 
@@ -47,8 +47,8 @@ returns-3 : tie.Need-returns-3
 unfolding between
 returns-3 c = let b = c .before .before in
     let s = b .before .before .before .before .before .args in
-    let p = b .before .before .cast-sat .ensures in
-    let q = b .before .cast-sat2 .ensures in
+    let p = b .before .before .cast-near .ensures in
+    let q = b .before .cast-near2 .ensures in
     let n : (castF (s .x0) ≡ castF (s .x1)) → ⊥ = (λ e. c .before .if2 .left (p ∙ e ∙ sym q)) in
     rw (b .before .before .before .if1 .left, ne-eqb (castF (s .x0)) (castF (s .x1)) n) (simp (c .across-segments .ensures, b .smaller .ensures, p, q))
 
@@ -57,9 +57,9 @@ area-between-spec =
     tie.close
     (tie.spec
     returns
-    cast-sat-requires
+    cast-near-requires
     cast-i0
-    cast-sat-requires-2
+    cast-near-requires-2
     cast-i1
     sub-smaller
     smaller-requires

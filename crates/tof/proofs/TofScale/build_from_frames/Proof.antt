@@ -1,38 +1,54 @@
-use borrow.Author.Tests.{not-true, not-false}
-use Rattle.tof.specs.TofLaws.{step-above}
-use Rattle.tof.proofs.Laws.{build-long, build-step, build-high, build-none, build-some}
-use mathlib.Core.Path.{sym, _∙_}
+use borrow.Author.Tests.{lt-ltb, le-ltb, le-leb, lt-leb, not-false}
+use mathlib.Core.Bool.{true, false, not}
+use mathlib.Core.Path.{_≡_, refl, sym, ap, _∙_}
+use Prim.Native.Nat.{_≤_, _<_}
 use native.Mathlib.Omega.{arith}
 use borrow.Author.Needs.{needs}
+use Rattle.refusal.proofs.Walk.{Left, refused, past, accepted, by}
+use Rattle.refusal.specs.AnswersLaws.{says-number, says-values}
+use Rattle.limits.specs.Limits.{maxTof}
+use Rattle.params.specs.Params.{allUpTo}
+use Rattle.tof.specs.TofAnswers.{buildChecks, buildNumber, build-number-is, buildAnswer}
+use Rattle.tof.specs.TofLaws.{step-above, up-to-highest}
 use Rattle.tof.proofs.TofScale.build_from_frames.Statement.{statement}
 use Rattle.tof.proofs.TofScale.build_from_frames.Tie as tie
 
-returns : tie.Need-returns
-returns c = let b = c .before .before in build-long (b .args .tofs .now) (b .args .tof-step) (c .if1 .taken)
+-- the checks that are left at each place
+abbrev all : tie.Start → Left
+all s = let ts = s .args .tofs .now in
+    record {
+      checks = buildChecks ts (s .args .tof-step);
+      number = buildNumber ts (s .args .tof-step);
+      answer = build-number-is ts (s .args .tof-step);
+    }
 
-sound-step-requires : tie.Need-sound-step-requires
-sound-step-requires c κs = search needs
+abbrev past1 : tie.Else1 → Left
+past1 c = past (all (c .before .before)) (le-ltb _ _ (c .if1 .left))
+
+abbrev past2 : tie.Else2 → Left
+past2 c = past (past1 (c .before .before)) (by (c .before .sound-step .ensures) (c .if2 .left))
+
+abbrev past3 : tie.Else3 → Left
+past3 c = let e = c .before .before in
+    past (past2 (e .before)) (rw (up-to-highest maxTof _ ∙ le-leb _ _ (rw (e .ends-of .ensures) at (c .if3 .left))))
+
+returns : tie.Need-returns
+unfolding buildAnswer
+returns c = says-number _ (refused (all (c .before .before)) (lt-ltb _ _ (c .if1 .taken))) (λ q. omega arith)
 
 returns-2 : tie.Need-returns-2
-returns-2 c = let d = c .before in
-    let b = d .before .before .before in
-    build-step (b .args .tofs .now) (b .args .tof-step) (d .before .if1 .left) (sym (d .sound-step .ensures) ∙ not-true _ (c .if2 .taken))
-
-ends-of-requires : tie.Need-ends-of-requires
-ends-of-requires c κs = search needs
+unfolding buildAnswer
+returns-2 c = says-number _ (refused (past1 (c .before .before)) (by (c .before .sound-step .ensures) (c .if2 .taken))) (λ q. omega arith)
 
 returns-3 : tie.Need-returns-3
-returns-3 c = let f = c .before .before .before in
-    let d = f .before in
-    let b = d .before .before .before in
-    build-high (b .args .tofs .now) (b .args .tof-step) (d .before .if1 .left) (sym (d .sound-step .ensures) ∙ not-false _ (f .if2 .left)) (c .before .before .ends-of .result) (c .before .before .ends-of .ensures) (c .if3 .taken)
+unfolding buildAnswer
+returns-3 c = let e = c .before .before in
+    says-number _ (refused (past2 (e .before)) (rw (up-to-highest maxTof _ ∙ lt-leb _ _ (rw (e .ends-of .ensures) at (c .if3 .taken))))) (λ q. omega arith)
 
 returns-4 : tie.Need-returns-4
-returns-4 c = let g = c .before .before in
-    let f = g .before .before .before in
-    let d = f .before in
-    let b = d .before .before .before in
-    build-none (b .args .tofs .now) (b .args .tof-step) (d .before .if1 .left) (sym (d .sound-step .ensures) ∙ not-false _ (f .if2 .left)) (g .before .before .ends-of .result) (g .before .before .ends-of .ensures) (g .if3 .left) (c .if4 .taken)
+unfolding buildAnswer
+returns-4 c = let e = c .before .before .before .before in
+    says-values _ (accepted (past3 (c .before .before)) refl) refl (rw (le-ltb _ _ (rw (e .ends-of .ensures) at (c .if4 .taken))))
 
 scale-of-requires : tie.Need-scale-of-requires
 scale-of-requires c κs = let g = c .before .before in
@@ -42,20 +58,19 @@ scale-of-requires c κs = let g = c .before .before in
     (step-above _ (sym (f .before .sound-step .ensures) ∙ not-false _ (f .if2 .left)), omega arith, omega arith)
 
 returns-5 : tie.Need-returns-5
-returns-5 c = let g = c .before .before .before in
-    let f = g .before .before .before in
-    let d = f .before in
-    let b = d .before .before .before in
-    build-some (b .args .tofs .now) (b .args .tof-step) (d .before .if1 .left) (sym (d .sound-step .ensures) ∙ not-false _ (f .if2 .left)) (g .before .before .ends-of .result) (g .before .before .ends-of .ensures) (g .if3 .left) (c .before .if4 .left) (c .scale-of .result) (c .scale-of .ensures)
+unfolding buildAnswer
+returns-5 c = let d = c .before in
+    let e = d .before .before .before .before in
+    says-values _ (accepted (past3 (d .before .before)) refl) refl (rw (lt-ltb _ _ (rw (e .ends-of .ensures) at (d .if4 .left)), c .scale-of .ensures, e .ends-of .ensures))
 
 pub build-from-frames-spec : {M : Type 1} → statement M
 build-from-frames-spec =
     tie.close
     (tie.spec
     returns
-    sound-step-requires
+    (λ c κs. search needs)
     returns-2
-    ends-of-requires
+    (λ c κs. search needs)
     returns-3
     returns-4
     scale-of-requires

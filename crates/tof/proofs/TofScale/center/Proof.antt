@@ -1,6 +1,7 @@
 use Rattle.tof.specs.TofAnswers.{centerAnswer}
 use Rattle.tof.specs.TofLaws.{no-number}
-use borrow.Author.Tests.{ne-eqb, eq-eqb, ltb-true}
+use Rattle.refusal.specs.AnswersLaws.{says-number, says-values}
+use borrow.Author.Tests.{ltb-true}
 use mathlib.Core.Path.{sym, _∙_}
 use borrow.Author.Needs.{needs}
 use Rattle.tof.proofs.TofScale.center.Statement.{statement}
@@ -11,7 +12,7 @@ number-requires c κs = search needs
 
 returns : tie.Need-returns
 unfolding centerAnswer
-returns c = rw (← c .before .number .ensures, ne-eqb _ _ (c .if1 .taken))
+returns c = says-number _ (c .before .number .ensures) (c .if1 .taken)
 
 center-of-requires : tie.Need-center-of-requires
 center-of-requires c κs = let b = c .before .before .before in
@@ -20,7 +21,7 @@ center-of-requires c κs = let b = c .before .before .before in
 
 returns-2 : tie.Need-returns-2
 unfolding centerAnswer
-returns-2 c = let d = c .before in rw (← d .before .number .ensures, eq-eqb _ _ (d .if1 .left), c .center-of .ensures)
+returns-2 c = let d = c .before in says-values _ (d .before .number .ensures) (d .if1 .left) (c .center-of .ensures)
 
 pub center-spec : {M : Type 1} → statement M
 center-spec = tie.close (tie.spec number-requires returns center-of-requires returns-2)

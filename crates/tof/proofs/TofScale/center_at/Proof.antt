@@ -1,6 +1,6 @@
 use Rattle.tof.specs.TofAnswers.{centerAtAnswer}
 use Rattle.tof.specs.TofLaws.{no-number}
-use borrow.Author.Tests.{ne-eqb, eq-eqb}
+use Rattle.refusal.specs.AnswersLaws.{says-number, says-values}
 use mathlib.Core.Path.{sym, _∙_}
 use borrow.Author.Needs.{needs}
 use Rattle.tof.proofs.TofScale.center_at.Statement.{statement}
@@ -14,7 +14,7 @@ number-requires c κs = search needs
 
 returns : tie.Need-returns
 unfolding centerAtAnswer
-returns c = rw (← c .before .before .in-range .ensures, ← c .before .number .ensures, ne-eqb _ _ (c .if1 .taken))
+returns c = rw (← c .before .before .in-range .ensures) (says-number _ (c .before .number .ensures) (c .if1 .taken))
 
 center-between-requires : tie.Need-center-between-requires
 center-between-requires c κs = let b = c .before .before .before in
@@ -23,7 +23,7 @@ center-between-requires c κs = let b = c .before .before .before in
 
 returns-2 : tie.Need-returns-2
 unfolding centerAtAnswer
-returns-2 c = let d = c .before in rw (← d .before .before .in-range .ensures, ← d .before .number .ensures, eq-eqb _ _ (d .if1 .left), c .center-between .ensures)
+returns-2 c = let d = c .before in rw (← d .before .before .in-range .ensures) (says-values _ (d .before .number .ensures) (d .if1 .left) (c .center-between .ensures))
 
 pub center-at-spec : {M : Type 1} → statement M
 center-at-spec =

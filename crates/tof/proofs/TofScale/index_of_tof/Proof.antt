@@ -1,7 +1,7 @@
 use Rattle.tof.specs.TofLaws.{scale-above}
 use Rattle.tof.specs.TofAnswers.{binAnswer}
 use Rattle.tof.specs.TofLaws.{no-number, plain}
-use borrow.Author.Tests.{ne-eqb, eq-eqb}
+use Rattle.refusal.specs.AnswersLaws.{says-number, says-values}
 use mathlib.Core.Path.{sym, _∙_}
 use borrow.Author.Needs.{needs}
 use Rattle.tof.proofs.TofScale.index_of_tof.Statement.{statement}
@@ -12,7 +12,7 @@ number-requires c κs = search needs
 
 returns : tie.Need-returns
 unfolding binAnswer
-returns c = rw (← c .before .number .ensures, ne-eqb _ _ (c .if1 .taken))
+returns c = says-number _ (c .before .number .ensures) (c .if1 .taken)
 
 in-scale-requires : tie.Need-in-scale-requires
 in-scale-requires c κs = search needs
@@ -25,11 +25,11 @@ bin-of-requires c κs = let d = c .before .before in
 
 returns-2 : tie.Need-returns-2
 unfolding binAnswer
-returns-2 c = let d = c .before .before .before in rw (← d .before .number .ensures, eq-eqb _ _ (d .if1 .left), ← c .before .before .in-scale .ensures, c .before .if2 .taken, c .bin-of .ensures)
+returns-2 c = let d = c .before .before .before in says-values _ (d .before .number .ensures) (d .if1 .left) (rw (← c .before .before .in-scale .ensures, c .before .if2 .taken, c .bin-of .ensures))
 
 returns-3 : tie.Need-returns-3
 unfolding binAnswer
-returns-3 c = let d = c .before .before in rw (← d .before .number .ensures, eq-eqb _ _ (d .if1 .left), ← c .before .in-scale .ensures, c .if2 .left)
+returns-3 c = let d = c .before .before in says-values _ (d .before .number .ensures) (d .if1 .left) (rw (← c .before .in-scale .ensures, c .if2 .left))
 
 pub index-of-tof-spec : {M : Type 1} → statement M
 index-of-tof-spec =

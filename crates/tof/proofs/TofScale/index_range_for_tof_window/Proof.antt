@@ -1,6 +1,6 @@
 use Rattle.tof.specs.TofAnswers.{rangeAnswer}
 use Rattle.tof.specs.TofLaws.{no-number}
-use borrow.Author.Tests.{ne-eqb, eq-eqb}
+use Rattle.refusal.specs.AnswersLaws.{says-number, says-values}
 use mathlib.Core.Path.{sym, _∙_}
 use borrow.Author.Needs.{needs}
 use Rattle.tof.proofs.TofScale.index_range_for_tof_window.Statement.{statement}
@@ -11,14 +11,14 @@ number-requires c κs = search needs
 
 returns : tie.Need-returns
 unfolding rangeAnswer
-returns c = rw (← c .before .number .ensures, ne-eqb _ _ (c .if1 .taken))
+returns c = says-number _ (c .before .number .ensures) (c .if1 .taken)
 
 window-bins-requires : tie.Need-window-bins-requires
 window-bins-requires c κs = no-number (c .before .before .args .self) _ _ (sym (c .before .number .ensures) ∙ c .if1 .left) .0
 
 returns-2 : tie.Need-returns-2
 unfolding rangeAnswer
-returns-2 c = let d = c .before in rw (← d .before .number .ensures, eq-eqb _ _ (d .if1 .left), c .window-bins .ensures)
+returns-2 c = let d = c .before in says-values _ (d .before .number .ensures) (d .if1 .left) (c .window-bins .ensures)
 
 pub index-range-for-tof-window-spec : {M : Type 1} → statement M
 index-range-for-tof-window-spec =

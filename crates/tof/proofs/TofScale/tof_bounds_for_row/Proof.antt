@@ -1,7 +1,8 @@
 use Rattle.tof.specs.Tof.{Sound}
 use Rattle.tof.specs.TofAnswers.{boundsAnswer}
 use Rattle.tof.specs.TofLaws.{no-number, bins-held}
-use borrow.Author.Tests.{ne-eqb, eq-eqb, ltb-true}
+use Rattle.refusal.specs.AnswersLaws.{says-number, says-values}
+use borrow.Author.Tests.{ltb-true}
 use mathlib.Core.Path.{sym, _∙_}
 use Prim.Native.Nat.{_<_}
 use native.Mathlib.Omega.{arith}
@@ -17,7 +18,7 @@ number-requires c κs = search needs
 
 returns : tie.Need-returns
 unfolding boundsAnswer
-returns c = rw (← c .before .number .ensures, ne-eqb _ _ (c .if1 .taken))
+returns c = says-number _ (c .before .number .ensures) (c .if1 .taken)
 
 edge-of-requires : tie.Need-edge-of-requires
 edge-of-requires c κs = let n = sound c in (n .0, omega arith)
@@ -40,7 +41,7 @@ of-u32-requires-2 c κs = search needs
 returns-2 : tie.Need-returns-2
 unfolding boundsAnswer
 returns-2 c = let d = c .before .before .before .before in
-    rw (← d .before .number .ensures, eq-eqb _ _ (d .if1 .left))
+    says-values _ (d .before .number .ensures) (d .if1 .left)
     (simp (c .of-u322 .ensures, c .before .edge-of2 .ensures, c .before .before .of-u32 .ensures, c .before .before .before .edge-of .ensures))
 
 pub tof-bounds-for-row-spec : {M : Type 1} → statement M

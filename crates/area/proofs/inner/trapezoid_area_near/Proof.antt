@@ -1,8 +1,8 @@
 use Rattle.area.specs.Area.{areaF}
 use borrow.Author.Tests.{lt-ltb, le-ltb}
 use borrow.Author.Needs.{needs}
-use Rattle.area.proofs.inner.trapezoid_area_fractional.Statement.{statement}
-use Rattle.area.proofs.inner.trapezoid_area_fractional.Tie as tie
+use Rattle.area.proofs.inner.trapezoid_area_near.Statement.{statement}
+use Rattle.area.proofs.inner.trapezoid_area_near.Tie as tie
 
 returns : tie.Need-returns
 unfolding areaF
@@ -28,8 +28,8 @@ unfolding areaF
 returns-2 c = let l = c .before .before .before in
     rw (le-ltb _ _ (l .before .if1 .left)) (simp (c .area-between .ensures, c .before .clamp2 .ensures, c .before .before .clamp .ensures, l .of-index .ensures))
 
-pub trapezoid-area-fractional-spec : {M : Type 1} → statement M
-trapezoid-area-fractional-spec =
+pub trapezoid-area-near-spec : {M : Type 1} → statement M
+trapezoid-area-near-spec =
     tie.close
     (tie.spec
     returns

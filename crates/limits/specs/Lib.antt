@@ -1,0 +1,2 @@
+-- The limits that the contracts cite.
+pub mod Limits

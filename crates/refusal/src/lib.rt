@@ -1,0 +1,1 @@
+// The numbers that refuse an input: definitions and laws alone (specs/, proofs/).
