@@ -2,14 +2,17 @@
 use mathlib.Core.Path.{_≡_, refl, sym, ap, _∙_}
 use mathlib.Core.Bool.{Bool, true, false, cond, not, _&&_}
 use mathlib.Core.List.{List, [], _∷_}
+use mathlib.Core.Logic.{⊎-elim}
 use Prim.Native.Nat.{ℕ, zero, suc, _≤_, _<_, _-_, _+_}
 use native.Mathlib.Omega.{arith}
-use native.Mathlib.Numerals.{add-one}
+use native.Mathlib.Nat.{add-zero, eq-or-lt-of-le}
+use native.Mathlib.Numerals.{add-one, sub-one}
 use lib.ListN.{length, drop, drop-of-length-le}
 use lib.Seq.{drop-cons}
 use lib.Ieee.{Float, nan, inf, fin, lt, le, isNan}
 use Rattle.numeric.specs.Arith.{at}
-use borrow.Author.Tests.{not-true}
+use borrow.Author.Tests.{not-true, ltb-true, ltb-false}
+use lib.Dec.{ltb}
 use Rattle.numeric.proofs.Laws.{clash}
 use Rattle.numeric.specs.Numeric.{maxF}
 use Rattle.numeric.proofs.Order.{lt-no-nan, le-no-nan, le-not-lt, not-lt, lt-le, le-trans, lt-le-trans}
@@ -149,3 +152,69 @@ right-on y h w p t = omega (arith, run-on h (at y w) (drop w y) (drop (w + 1) y)
 
 pub right-stop : (y : List Float) (h : Float) (w : ℕ) → w < length y → lt h (at y w) ≡ false → rightFoot y h w ≡ w
 right-stop y h w p t = omega (arith, run-stop h (at y w) (drop w y) (drop (w + 1) y) (right-cons y w p) t)
+
+-- ---- what lies between the feet of an apex is above the height
+pub left-above : (y : List Float) (h : Float) (i k : ℕ) → leftFoot y h i < k → k ≤ i → lt h (at y k) ≡ true
+left-above y h zero k a b = absurd (omega arith)
+left-above y h (suc i) k a b = go (left-above y h i k) (lt h (at y (suc i))) refl
+  where
+    go : (leftFoot y h i < k → k ≤ i → lt h (at y k) ≡ true) → (t : Bool) → lt h (at y (suc i)) ≡ t → lt h (at y k) ≡ true
+    go again false e = absurd (omega (arith, left-stop y h (suc i) e))
+    go again true e =
+        let f : leftFoot y h (suc i) ≡ leftFoot y h i = rw sub-one at (left-on y h (suc i) (omega arith) e) in
+        ⊎-elim (λ s. rw s e) (λ l. again (omega (arith, f)) (omega arith)) (eq-or-lt-of-le b)
+
+right-first : (y : List Float) (h : Float) (i : ℕ) → i < rightFoot y h i → lt h (at y i) ≡ true
+right-first y h i a = go (lt h (at y i)) refl
+  where
+    go : (t : Bool) → lt h (at y i) ≡ t → t ≡ true
+    go false e = absurd (omega (arith, right-stop y h i (omega arith) e))
+    go true e = refl
+
+right-above-by : (y : List Float) (h : Float) (n i : ℕ) → i + n < rightFoot y h i → lt h (at y (i + n)) ≡ true
+right-above-by y h zero i a = rw add-zero (right-first y h i (omega arith))
+right-above-by y h (suc n) i a =
+    let e : i + suc n ≡ i + 1 + n = omega arith in
+    rw e (right-above-by y h n (i + 1) (omega (arith, right-on y h i (omega arith) (right-first y h i (omega arith)))))
+
+pub right-above : (y : List Float) (h : Float) (i k : ℕ) → i ≤ k → k < rightFoot y h i → lt h (at y k) ≡ true
+right-above y h i k a b =
+    let e : i + (k - i) ≡ k = omega arith in
+    rw e at (right-above-by y h (k - i) i (omega arith))
+
+-- over readings above the height the foot stays the same
+left-run : (y : List Float) (h : Float) (n a : ℕ) → ((k : ℕ) → a < k → k ≤ a + n → lt h (at y k) ≡ true) → leftFoot y h (a + n) ≡ leftFoot y h a
+left-run y h zero a up = rw add-zero
+left-run y h (suc n) a up =
+    let e : a + suc n - 1 ≡ a + n = omega arith in
+    left-on y h (a + suc n) (omega arith) (up (a + suc n) (omega arith) (omega arith)) ∙ ap (leftFoot y h) e ∙ left-run y h n a (λ k p q. up k p (omega arith))
+
+right-run : (y : List Float) (h : Float) (n a : ℕ) → a + n ≤ length y → ((k : ℕ) → a ≤ k → k < a + n → lt h (at y k) ≡ true) → rightFoot y h a ≡ rightFoot y h (a + n)
+right-run y h zero a l up = rw add-zero
+right-run y h (suc n) a l up =
+    let e : a + n + 1 ≡ a + suc n = omega arith in
+    right-run y h n a (omega arith) (λ k p q. up k p (omega arith)) ∙ right-on y h (a + n) (omega arith) (up (a + n) (omega arith) (omega arith)) ∙ ap (rightFoot y h) e
+
+-- so that the feet of an apex are those of every sample strictly between them
+pub record Feet (y : List Float) (h : Float) (i j : ℕ) : Type 0 where
+  pub left : leftFoot y h j ≡ leftFoot y h i
+  pub right : rightFoot y h j ≡ rightFoot y h i
+
+pub feet-same : (y : List Float) (h : Float) (i j : ℕ) → leftFoot y h i < j → j < rightFoot y h i → i < length y → Feet y h i j
+feet-same y h i j a b l = go (ltb i j) refl
+  where
+    go : (t : Bool) → ltb i j ≡ t → Feet y h i j
+    go true t =
+        let p : i < j = ltb-true i j t in
+        let e : i + (j - i) ≡ j = omega arith in
+        record {
+          left = rw e at (left-run y h (j - i) i (λ k q r. right-above y h i k (omega arith) (omega arith)));
+          right = sym (rw e at (right-run y h (j - i) i (omega arith) (λ k q r. right-above y h i k (omega arith) (omega arith))));
+        }
+    go false t =
+        let p : j ≤ i = ltb-false i j t in
+        let e : j + (i - j) ≡ i = omega arith in
+        record {
+          left = sym (rw e at (left-run y h (i - j) j (λ k q r. left-above y h i k (omega arith) (omega arith))));
+          right = rw e at (right-run y h (i - j) j (omega arith) (λ k q r. left-above y h i k (omega arith) (omega arith)));
+        }

@@ -90,7 +90,7 @@ share h a b = cond (ne b a) ((h ⊖ a) ⊘ (b ⊖ a)) 𝟎
 
 -- where the row crosses the height left of i and right of it, in samples; at i itself where its reading is not above the height
 -- Where no reading on that side falls to the height, the line through the last two is taken all the same, so that the place may
--- lie outside of the row; at the half height of an apex of finite readings this was never seen.
+-- lie outside of the row. At the half height it does not, in a row that is accepted (rowlaws/specs/Enclosed.antt).
 unfoldable pub leftCrossing : List Float → Float → ℕ → Float
 leftCrossing y h i =
     let w = leftFoot y h i in cond (ltb w i) (indexF w ⊕ share h (at y w) (at y (w + 1))) (indexF w)

@@ -2,6 +2,7 @@
 ghost use mathlib.Core.Path.{_≡_};
 ghost use Prim.Native.Nat.{_≤_, _<_, _+_};
 ghost use lib.ListN.{length};
+ghost use Rattle.limits.specs.Limits.{exactIndex};
 ghost use Rattle.numeric.specs.Arith.{at};
 ghost use Rattle.numeric.specs.Numeric.{maxF};
 ghost use Rattle.apex.specs.Apex.{isCandidate, leftOf, rightOf, upToHigher, least, baseline, riseOf, noneBelow, Ground, leftFoot, rightFoot, share, leftCrossing, rightCrossing};
@@ -131,7 +132,8 @@ pub fn rise_of(y: &[f32], ground: f32, i: usize) -> Rise
     rise_from(y, walk_of(y, ground, i).height, i)
 }
 
-fn left_foot(y: &[f32], h: f32, i: usize) -> usize
+// The nearest sample, from i on to the left, that is not above the height h; the first one if there is none.
+pub fn left_foot(y: &[f32], h: f32, i: usize) -> usize
     requires { ⌜ i < length (now y) ⌝ }
     ensures { λ r. ⌜ r ≡ leftFoot (now (y .entry)) h i ⌝ }
 {
@@ -142,7 +144,8 @@ fn left_foot(y: &[f32], h: f32, i: usize) -> usize
     w
 }
 
-fn right_foot(y: &[f32], h: f32, i: usize) -> usize
+// The same to the right.
+pub fn right_foot(y: &[f32], h: f32, i: usize) -> usize
     requires { ⌜ i < length (now y) ⌝ }
     ensures { λ r. ⌜ r ≡ rightFoot (now (y .entry)) h i ⌝ }
 {
@@ -159,12 +162,11 @@ fn share_of(h: f32, a: f32, b: f32) -> f32
     if b != a { (h - a) / (b - a) } else { 0.0 }
 }
 
-// Where the row crosses the height h left of i.
-pub fn left_crossing(y: &[f32], h: f32, i: usize) -> f32
-    requires { ⌜ (i < length (now y)) × (length (now y) ≤ 16777216) ⌝ }
+// Where the row crosses the height h left of i, where the foot w is known.
+pub fn left_crossing_from(y: &[f32], h: f32, i: usize, w: usize) -> f32
+    requires { ⌜ (i < length (now y)) × (length (now y) ≤ exactIndex) × (w ≡ leftFoot (now y) h i) ⌝ }
     ensures { λ r. ⌜ r ≡ leftCrossing (now (y .entry)) h i ⌝ }
 {
-    let w = left_foot(y, h, i);
     let x = numeric::inner::of_index(w);
     if w < i {
         return x + share_of(h, y[w], y[w + 1]);
@@ -172,14 +174,27 @@ pub fn left_crossing(y: &[f32], h: f32, i: usize) -> f32
     x
 }
 
-// Where the row crosses the height h right of i.
-pub fn right_crossing(y: &[f32], h: f32, i: usize) -> f32
-    requires { ⌜ (i < length (now y)) × (length (now y) ≤ 16777216) ⌝ }
+pub fn left_crossing(y: &[f32], h: f32, i: usize) -> f32
+    requires { ⌜ (i < length (now y)) × (length (now y) ≤ exactIndex) ⌝ }
+    ensures { λ r. ⌜ r ≡ leftCrossing (now (y .entry)) h i ⌝ }
+{
+    left_crossing_from(y, h, i, left_foot(y, h, i))
+}
+
+// Where the row crosses the height h right of i, where the foot w is known.
+pub fn right_crossing_from(y: &[f32], h: f32, i: usize, w: usize) -> f32
+    requires { ⌜ (i < length (now y)) × (length (now y) ≤ exactIndex) × (w ≡ rightFoot (now y) h i) ⌝ }
     ensures { λ r. ⌜ r ≡ rightCrossing (now (y .entry)) h i ⌝ }
 {
-    let w = right_foot(y, h, i);
     if i < w {
         return numeric::inner::of_index(w - 1) + share_of(h, y[w - 1], y[w]);
     }
     numeric::inner::of_index(w)
+}
+
+pub fn right_crossing(y: &[f32], h: f32, i: usize) -> f32
+    requires { ⌜ (i < length (now y)) × (length (now y) ≤ exactIndex) ⌝ }
+    ensures { λ r. ⌜ r ≡ rightCrossing (now (y .entry)) h i ⌝ }
+{
+    right_crossing_from(y, h, i, right_foot(y, h, i))
 }

@@ -30,7 +30,7 @@ same-eqb a b c d f g = go (eqb a b) refl
     go true e = sym (eq-eqb c d (f (eqb-true a b e)))
     go false e = sym (ne-eqb c d (λ q. eqb-false a b e (g q)))
 
-lt-or-eq : (a b : ℕ) → (ltb a b || eqb a b) ≡ leb a b
+pub lt-or-eq : (a b : ℕ) → (ltb a b || eqb a b) ≡ leb a b
 lt-or-eq a b = go (ltb a b) (eqb a b) refl refl
   where
     go : (s t : Bool) → ltb a b ≡ s → eqb a b ≡ t → (s || t) ≡ leb a b
@@ -39,10 +39,10 @@ lt-or-eq a b = go (ltb a b) (eqb a b) refl refl
     go false false e d = sym (lt-leb a b (let n : a ≡ b → ⊥ = eqb-false a b d in omega (arith, ltb-false a b e)))
 
 -- ---- a common factor changes no test
-mul-ltb : (a b c : ℕ) → 0 < c → ltb (a * c) (b * c) ≡ ltb a b
+pub mul-ltb : (a b c : ℕ) → 0 < c → ltb (a * c) (b * c) ≡ ltb a b
 mul-ltb a b c p = sym (same-ltb a b (a * c) (b * c) (λ h. mul-lt-mul-of-pos-right h p) (λ h. mul-le-mul-right c h))
 
-mul-eqb : (a b c : ℕ) → 0 < c → eqb (a * c) (b * c) ≡ eqb a b
+pub mul-eqb : (a b c : ℕ) → 0 < c → eqb (a * c) (b * c) ≡ eqb a b
 mul-eqb a b c p = same-eqb (a * c) (b * c) a b (λ h. eq-of-mul-eq-mul-right c p a b h) (λ h. ap (λ (k : ℕ). k * c) h)
 
 mul-zero-ltb : (a c : ℕ) → 0 < c → ltb 0 (a * c) ≡ ltb 0 a
@@ -59,7 +59,7 @@ mul-level s t a b c p =
     rw (mul-eqb a b c p) (ap (λ (z : Bool). eqb a b && (Bool·beq s t || z)) (ap (eqb (a * c)) (sym (zero-mul c)) ∙ mul-eqb a 0 c p))
 
 -- a / p and b / q over one denominator k are u / k and v / k
-over : (P : ℕ → ℕ → Bool) → ((a b c : ℕ) → 0 < c → P (a * c) (b * c) ≡ P a b)
+pub over : (P : ℕ → ℕ → Bool) → ((a b c : ℕ) → 0 < c → P (a * c) (b * c) ≡ P a b)
     → (a p b q k u v : ℕ) → 0 < k → 0 < p → 0 < q → u * p ≡ a * k → v * q ≡ b * k → P (a * q) (b * p) ≡ P u v
 over P scale a p b q k u v K Z Q d e =
     sym (scale (a * q) (b * p) k K)

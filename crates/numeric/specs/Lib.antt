@@ -1,4 +1,4 @@
 -- The definitions that the contracts of `numeric` cite.
 pub mod Arith
 pub mod Numeric
-pub mod Refusal
+pub mod Plain

@@ -141,7 +141,7 @@ cross x a c e g d h = simp (mul-assoc, mul-comm, mul-left-comm) (simp mul-assoc 
 cross' : (y b c e g d : ℕ) → y * d ≡ b * g → y * e * (c * d) ≡ b * c * (e * g)
 cross' y b c e g d h = ap (λ (z : ℕ). y * e * z) (mul-comm c d) ∙ cross y b d g e c h ∙ ap (λ (z : ℕ). b * c * z) (mul-comm g e)
 
-add-is : (x y : Float) (a c b d : ℕ) → 0 < c → 0 < d → HasValue x false a c → HasValue y false b d → add binary32 x y ≡ round binary32 false (a * d + b * c) (c * d)
+pub add-is : (x y : Float) (a c b d : ℕ) → 0 < c → 0 < d → HasValue x false a c → HasValue y false b d → add binary32 x y ≡ round binary32 false (a * d + b * c) (c * d)
 unfolding add sum
 add-is nan y a c b d C D v w = absurd v
 add-is (inf s) y a c b d C D v w = absurd v
@@ -188,7 +188,7 @@ ltb-scale a b d p = go (ltb a b) refl
     go true e = lt-ltb (a * d) (b * d) (mul-lt-mul-of-pos-right (ltb-true a b e) p) ∙ sym e
     go false e = le-ltb (a * d) (b * d) (mul-le-mul-right d (ltb-false a b e)) ∙ sym e
 
-lt-is : (x y : Float) (a c b d : ℕ) → 0 < c → 0 < d → HasValue x false a c → HasValue y false b d → lt x y ≡ ltb (a * d) (b * c)
+pub lt-is : (x y : Float) (a c b d : ℕ) → 0 < c → 0 < d → HasValue x false a c → HasValue y false b d → lt x y ≡ ltb (a * d) (b * c)
 unfolding lt
 lt-is nan y a c b d C D v w = absurd v
 lt-is (inf s) y a c b d C D v w = absurd v
@@ -281,7 +281,7 @@ module _ (a d : ℕ) (p : 0 < d) where
       div-eq-of-lt-le (d * 2) (omega arith) (omega arith)
 
 -- a half of a number below 2 ^ 24 is held
-half-value : (n : ℕ) → n < 16777216 → HasValue (round binary32 false n 2) false n 2
+pub half-value : (n : ℕ) → n < 16777216 → HasValue (round binary32 false n 2) false n 2
 half-value n h =
     round-exact binary32 false n 2 n 148 (lit< tt) h (lt-of-lt-of-le (shl-lt {a = n} 24 148 h) (pow-mono {i = 172} {j = 277} (lit≤ tt)))
     (sym (mul-assoc n (2 ^ 148) 2))

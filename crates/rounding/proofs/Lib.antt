@@ -1,2 +1,3 @@
--- What the proofs of `rounding` cite.
+-- What the proofs of `rounding` and of the crates above it cite.
 pub mod Laws
+pub mod Guess

@@ -1,2 +1,3 @@
 -- The definitions that the contracts of `rounding` cite.
 pub mod Rounding
+pub mod Guess

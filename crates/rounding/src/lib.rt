@@ -1,4 +1,6 @@
 // Rust's floor, ceil and round of an f32: total.
+pub mod near;
+
 ghost use mathlib.Core.Path.{_≡_};
 ghost use mathlib.Core.Bool.{true};
 ghost use lib.Ieee.{binary32, lt, ofBits};

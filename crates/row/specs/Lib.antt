@@ -1,8 +1,7 @@
 -- The definitions that the contracts of `row` cite, and what follows of them.
-pub mod Suppression
-pub mod Account
 pub mod Row
 pub mod RowNumber
-pub mod RowLaws
+pub mod RowNumberLaws
+pub mod RowWords
+pub mod Written
 pub mod Steps
-pub mod RowCases

@@ -1,68 +1,23 @@
--- The mobility peaks of one TOF row: y is the smoothed row, z the raw one, both over the same scans.
-use mathlib.Core.Bool.{Bool, true, false, cond, not, _&&_}
+-- The records of the peaks of one TOF row: y is the smoothed row, z the raw one, both over the same scans.
 use mathlib.Core.List.{List, [], _∷_, _++_}
-use Prim.Native.Nat.{ℕ, zero, suc, _+_, _-_, _*_, min}
-use lib.Dec.{leb, ltb, eqb}
-use lib.ListN.{length, getD, drop}
-use lib.Ieee.{Float, binary32, lt, le, ofBits}
-use Rattle.numeric.specs.Arith.{_⊖_, 𝟎, ½, indexF, at}
-use Rattle.numeric.specs.Numeric.{maxF, minF, clampF, castF, quadF}
-use Rattle.rounding.specs.Rounding.{floorF, ceilF, roundF}
-use Rattle.apex.specs.Apex.{candidates, prominence, halfHeight, leftCrossing, rightCrossing}
+use Prim.Native.Nat.{ℕ, _+_, _-_, min}
+use lib.ListN.{length, getD}
+use lib.Ieee.{Float, binary32, ofBits}
+use Rattle.numeric.specs.Arith.{𝟎, ½, indexF, at}
+use Rattle.numeric.specs.Numeric.{maxF, minF, clampF, quadF}
+use Rattle.rounding.specs.Rounding.{floorF, ceilF}
+use Rattle.apex.specs.Apex.{prominence}
 use Rattle.area.specs.Area.{areaF}
 use Rattle.record.specs.declared.ImPeak1D.{ImPeak1D}
 use Rattle.record.specs.Record.{wordsOf}
-use Rattle.row.specs.Suppression.{keepAll}
-use Rattle.params.specs.declared.ImDetectParams.{ImDetectParams}
+use Rattle.spans.specs.Span.{sampleAt}
+use Rattle.rowsearch.specs.Qualifying.{leftX, rightX, width}
+use Rattle.rowsearch.specs.declared.inner.Measured.{Measured}
 use Rattle.params.specs.declared.RowPlace.{RowPlace}
 use Rattle.params.specs.declared.FrameBounds.{FrameBounds}
 use Rattle.params.specs.declared.WindowGroup.{WindowGroup}
 use Rattle.params.specs.declared.WindowGroup.the-variants.{Missing, Group}
-
--- ---- qualifying apexes
-
--- the highest of a reading and further ones
-unfoldable pub highest : Float → List Float → Float
-highest m [] = m
-highest m (v ∷ vs) = highest (cond (lt m v) v m) vs
-
--- a value that is not below the floor
-abbrev pub reaches : Float → Float → Bool
-reaches floor x = not (lt x floor)
-
--- where the row crosses the apex's half height, in samples, and the width between, rounded
-unfoldable pub leftX : List Float → ℕ → Float
-leftX y i = leftCrossing y (halfHeight y i) i
-
-unfoldable pub rightX : List Float → ℕ → Float
-rightX y i = rightCrossing y (halfHeight y i) i
-
-unfoldable pub width : List Float → ℕ → ℕ
-width y i = castF (roundF (maxF (rightX y i ⊖ leftX y i) 𝟎))
-
--- A candidate qualifies (document 01, "a qualifying apex") by its prominence and its width, ..
-unfoldable pub qualifies : ImDetectParams → List Float → ℕ → Bool
-qualifies p y i = reaches (p .«min_prom») (prominence y i) && leb (p .«min_width_scans») (width y i)
-
--- .. in a row whose raw maximum reaches the floor
-unfoldable pub chosenOf : ImDetectParams → List Float → List ℕ → List ℕ
-chosenOf p y [] = []
-chosenOf p y (i ∷ is) = cond (qualifies p y i) (i ∷ chosenOf p y is) (chosenOf p y is)
-
-unfoldable pub qualifying : ImDetectParams → List Float → List Float → List ℕ
-qualifying p y z = cond (reaches (p .«min_prom») (highest 𝟎 z)) (chosenOf p y (candidates y)) []
-
--- ---- listed apexes
-
--- the apexes that are listed, the newest first
-unfoldable pub kept : ImDetectParams → List Float → List Float → List ℕ
-kept p y z = keepAll (p .«min_distance_scans») y [] (qualifying p y z)
-
--- ---- records
-
--- the sample at or next to a place, within a row of n
-abbrev pub sampleAt : ℕ → Float → ℕ
-sampleAt n x = castF (clampF x 𝟎 (indexF (n - 1)))
+use Rattle.row.specs.declared.inner.OnAxes.{OnAxes}
 
 -- the scan of a sample, the last one's past the axis
 abbrev pub scanAt : List ℕ → ℕ → ℕ
@@ -89,6 +44,17 @@ groupWord (Group g) = g
 abbrev pub mobilityFlag : List Float → ℕ
 mobilityFlag [] = 0
 mobilityFlag (m ∷ ms) = 2
+
+-- where what is measured of an apex lies on the scan axis, and its mobility
+abbrev pub onAxes : List Float → List ℕ → Measured → OnAxes
+onAxes mobility axis a =
+    record {
+      scan = scanAt axis (a .index);
+      left = scanAt axis (a .left);
+      right = scanAt axis (a .right);
+      mobility = mobilityAt mobility (a .index);
+      flag = mobilityFlag mobility;
+    }
 
 -- the peak of an apex, with its identity
 unfoldable pub peakOf : RowPlace → FrameBounds → List Float → List ℕ → List Float → List Float → ℕ → ℕ → ImPeak1D

@@ -5,10 +5,12 @@ use params::FrameBounds;
 use params::ImDetectParams;
 use params::RowPlace;
 use record::ImPeak1D;
+use record::PeakId;
 ghost use mathlib.Core.Path.{_≡_};
 ghost use lib.ListN.{length};
-ghost use Rattle.row.specs.Row.{kept};
-ghost use Rattle.row.specs.RowNumber.{sameLengths, soundReadings, soundValues, soundAxis, rowNumber, rowAnswer, rowList};
+ghost use Rattle.refusal.specs.Answers.{answerBy};
+ghost use Rattle.rowsearch.specs.Qualifying.{kept};
+ghost use Rattle.row.specs.RowNumber.{sameLengths, soundReadings, soundValues, soundAxis, rowNumber, rowSays, rowList};
 
 pub enum RowAnswer {
     Peaks(usize),
@@ -26,7 +28,8 @@ fn same_lengths(y: &[f32], z: &[f32], mobility: &[f32], axis: &[u32]) -> bool
 fn sound_readings(y: &[f32], z: &[f32]) -> bool
     ensures { λ r. ⌜ r ≡ soundReadings (now (y .entry)) (now (z .entry)) ⌝ }
 {
-    numeric::inner::all_in_range(y, 0x5000_0000) & numeric::inner::all_in_range(z, 0x4f80_0000)
+    numeric::inner::all_in_range(y, limits::MAX_HEIGHT)
+        & numeric::inner::all_in_range(z, limits::MAX_READING)
 }
 
 fn sound_values(
@@ -35,21 +38,21 @@ fn sound_values(
     bounds: FrameBounds,
     mobility: &[f32],
     p: ImDetectParams,
-    first: u32,
+    first: PeakId,
 ) -> bool
     ensures { λ r. ⌜ r ≡ soundValues n place bounds (now (mobility .entry)) p first ⌝ }
 {
     params::inner::sound_params(p)
-        & numeric::inner::all_in_range(mobility, 0x4980_0000)
+        & numeric::inner::all_in_range(mobility, limits::MAX_MOBILITY)
         & params::inner::sound_bounds(bounds)
-        & (place.tof_row <= 4194303)
+        & (place.tof_row <= limits::LAST_ROW)
         & params::inner::enough_ids(first, params::inner::most_peaks(n))
 }
 
 fn sound_axis(place: RowPlace, axis: &[u32]) -> bool
     ensures { λ r. ⌜ r ≡ soundAxis place (now (axis .entry)) ⌝ }
 {
-    params::inner::all_up_to(65535, axis) & params::inner::sound_tof(place)
+    params::inner::all_up_to(limits::MAX_SCAN, axis) & params::inner::sound_tof(place)
 }
 
 // The number that a row is answered with, 0 for none; `room` is the length of the lent list.
@@ -61,7 +64,7 @@ fn number(
     mobility: &[f32],
     p: ImDetectParams,
     axis: &[u32],
-    first: u32,
+    first: PeakId,
     room: usize,
 ) -> u32
     ensures { λ r. ⌜ r ≡ rowNumber (now (y .entry)) (now (z .entry)) place bounds (now (mobility .entry)) p (now (axis .entry)) first room ⌝ }
@@ -69,7 +72,7 @@ fn number(
     if !same_lengths(y, z, mobility, axis) {
         return 1;
     }
-    if y.len() > 16384 {
+    if y.len() > limits::MAX_SAMPLES {
         return 2;
     }
     if !sound_readings(y, z) {
@@ -99,10 +102,10 @@ pub fn find_im_peaks_row(
     mobility: &[f32],
     p: ImDetectParams,
     scan_axis: &[u32],
-    first: u32,
+    first: PeakId,
     out: &mut [u32],
 ) -> RowAnswer
-    ensures answer { λ r. ⌜ r ≡ rowAnswer (rowNumber (now («y_smoothed» .entry)) (now («y_raw» .entry)) place bounds (now (mobility .entry)) p (now («scan_axis» .entry)) first (length (now (out .entry)))) (length (kept p (now («y_smoothed» .entry)) (now («y_raw» .entry)))) ⌝ }
+    ensures answer { λ r. ⌜ rowSays r ≡ answerBy (rowNumber (now («y_smoothed» .entry)) (now («y_raw» .entry)) place bounds (now (mobility .entry)) p (now («scan_axis» .entry)) first (length (now (out .entry)))) (length (kept p (now («y_smoothed» .entry)) (now («y_raw» .entry)))) ⌝ }
     ensures words { λ r. ⌜ now (out .exit) ≡ rowList (now («y_smoothed» .entry)) (now («y_raw» .entry)) place bounds (now (mobility .entry)) p (now («scan_axis» .entry)) first (now (out .entry)) ⌝ }
 {
     let no = number(

@@ -1,4 +1,4 @@
-use Rattle.row.proofs.Laws.{ready}
+use Rattle.row.proofs.Laws.{ready, readings}
 use borrow.Author.Tests.{ne-eqb}
 use mathlib.Core.Path.{refl, sym, _∙_}
 use borrow.Author.Needs.{needs}
@@ -11,7 +11,10 @@ number-requires c κs = search needs
 find-im-peaks-row-requires : tie.Need-find-im-peaks-row-requires
 find-im-peaks-row-requires c κs = let b = c .before .before in
     let s = b .before .before .before .before .before .before in
-    ready (s .args .y-smoothed .now) (s .args .y-raw .now) (s .args .place) (s .args .bounds) (s .args .mobility .now) (s .args .p) (s .args .scan-axis .now) (s .args .first) _ (sym (b .number .ensures) ∙ c .before .if1 .taken)
+    let a = s .args in
+    let e = sym (b .number .ensures) ∙ c .before .if1 .taken in
+    let n = readings (a .y-smoothed .now) (a .y-raw .now) (a .place) (a .bounds) (a .mobility .now) (a .p) (a .scan-axis .now) (a .first) _ e in
+    (ready (a .y-smoothed .now) (a .y-raw .now) (a .place) (a .bounds) (a .mobility .now) (a .p) (a .scan-axis .now) (a .first) _ e, n .0, n .1)
 
 same-length : tie.Need-same-length
 same-length c = search needs

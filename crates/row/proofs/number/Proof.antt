@@ -1,121 +1,57 @@
-use Rattle.row.specs.RowNumber.{rowNumber}
-use Rattle.numeric.specs.Refusal.{firstOf}
-use borrow.Author.Tests.{lt-ltb, le-ltb, not-true, not-false}
-use mathlib.Core.Path.{sym, _∙_}
+use borrow.Author.Tests.{lt-ltb, le-ltb}
+use mathlib.Core.Path.{refl}
 use borrow.Author.Needs.{needs}
+use Rattle.refusal.proofs.Walk.{Left, refused, past, accepted, by}
+use Rattle.row.specs.RowNumber.{rowChecks, rowNumber, number-is}
 use Rattle.row.proofs.number.Statement.{statement}
 use Rattle.row.proofs.number.Tie as tie
 
-same-lengths-requires : tie.Need-same-lengths-requires
-same-lengths-requires c κs = search needs
+-- the checks that are left at each place
+abbrev all : tie.Start → Left
+all s =
+    record {
+      checks = rowChecks (s .args .y .now) (s .args .z .now) (s .args .place) (s .args .bounds) (s .args .mobility .now) (s .args .p) (s .args .axis .now) (s .args .first) (s .args .room);
+      number = rowNumber (s .args .y .now) (s .args .z .now) (s .args .place) (s .args .bounds) (s .args .mobility .now) (s .args .p) (s .args .axis .now) (s .args .first) (s .args .room);
+      answer = number-is (s .args .y .now) (s .args .z .now) (s .args .place) (s .args .bounds) (s .args .mobility .now) (s .args .p) (s .args .axis .now) (s .args .first) (s .args .room);
+    }
 
-returns : tie.Need-returns
-unfolding rowNumber firstOf
-returns c = rw (sym (c .before .same-lengths .ensures) ∙ not-true _ (c .if1 .taken))
+abbrev past0 : tie.After-same-lengths → Left
+past0 c = all (c .before .before .before .before .before)
 
-returns-2 : tie.Need-returns-2
-unfolding rowNumber firstOf
-returns-2 c = rw (
-  sym (c .before .before .same-lengths .ensures) ∙ not-false _ (c .before .if1 .left),
-  lt-ltb _ _ (c .if2 .taken),
-)
+abbrev past1 : tie.Else1 → Left
+past1 c = past (past0 (c .before)) (by (c .before .same-lengths .ensures) (c .if1 .left))
 
-sound-readings-requires : tie.Need-sound-readings-requires
-sound-readings-requires c κs = search needs
+abbrev past2 : tie.Else2 → Left
+past2 c = past (past1 (c .before)) (le-ltb _ _ (c .if2 .left))
 
-returns-3 : tie.Need-returns-3
-unfolding rowNumber firstOf
-returns-3 c = rw (
-  sym (c .before .before .before .before .same-lengths .ensures) ∙ not-false _ (c .before .before .before .if1 .left),
-  le-ltb _ _ (c .before .before .if2 .left),
-  sym (c .before .sound-readings .ensures) ∙ not-true _ (c .if3 .taken),
-)
+abbrev past3 : tie.Else3 → Left
+past3 c = past (past2 (c .before .before)) (by (c .before .sound-readings .ensures) (c .if3 .left))
 
-sound-values-requires : tie.Need-sound-values-requires
-sound-values-requires c κs = search needs
+abbrev past4 : tie.Else4 → Left
+past4 c = past (past3 (c .before .before)) (by (c .before .sound-values .ensures) (c .if4 .left))
 
-returns-4 : tie.Need-returns-4
-unfolding rowNumber firstOf
-returns-4 c = rw (
-  sym (c .before .before .before .before .before .before .same-lengths .ensures) ∙ not-false _ (c .before .before .before .before .before .if1 .left),
-  le-ltb _ _ (c .before .before .before .before .if2 .left),
-  sym (c .before .before .before .sound-readings .ensures) ∙ not-false _ (c .before .before .if3 .left),
-  sym (c .before .sound-values .ensures) ∙ not-true _ (c .if4 .taken),
-)
+abbrev past5 : tie.Else5 → Left
+past5 c = past (past4 (c .before .before)) (by (c .before .sound-axis .ensures) (c .if5 .left))
 
-sound-axis-requires : tie.Need-sound-axis-requires
-sound-axis-requires c κs = search needs
-
-returns-5 : tie.Need-returns-5
-unfolding rowNumber firstOf
-returns-5 c = rw (
-  sym (c .before .before .before .before .before .before .before .before .same-lengths .ensures) ∙ not-false _ (c .before .before .before .before .before .before .before .if1 .left),
-  le-ltb _ _ (c .before .before .before .before .before .before .if2 .left),
-  sym (c .before .before .before .before .before .sound-readings .ensures) ∙ not-false _ (c .before .before .before .before .if3 .left),
-  sym (c .before .before .before .sound-values .ensures) ∙ not-false _ (c .before .before .if4 .left),
-  sym (c .before .sound-axis .ensures) ∙ not-true _ (c .if5 .taken),
-)
-
-is-rising-requires : tie.Need-is-rising-requires
-is-rising-requires c κs = search needs
-
-returns-6 : tie.Need-returns-6
-unfolding rowNumber firstOf
-returns-6 c = rw (
-  sym (c .before .before .before .before .before .before .before .before .before .before .same-lengths .ensures) ∙ not-false _ (c .before .before .before .before .before .before .before .before .before .if1 .left),
-  le-ltb _ _ (c .before .before .before .before .before .before .before .before .if2 .left),
-  sym (c .before .before .before .before .before .before .before .sound-readings .ensures) ∙ not-false _ (c .before .before .before .before .before .before .if3 .left),
-  sym (c .before .before .before .before .before .sound-values .ensures) ∙ not-false _ (c .before .before .before .before .if4 .left),
-  sym (c .before .before .before .sound-axis .ensures) ∙ not-false _ (c .before .before .if5 .left),
-  sym (c .before .is-rising .ensures) ∙ not-true _ (c .if6 .taken),
-)
-
-most-peaks-requires : tie.Need-most-peaks-requires
-most-peaks-requires c κs = search needs
-
-mul-if7 : tie.Need-mul-if7
-mul-if7 c = search needs
-
-returns-7 : tie.Need-returns-7
-unfolding rowNumber firstOf
-returns-7 c = rw (
-  sym (c .before .before .before .before .before .before .before .before .before .before .before .before .same-lengths .ensures) ∙ not-false _ (c .before .before .before .before .before .before .before .before .before .before .before .if1 .left),
-  le-ltb _ _ (c .before .before .before .before .before .before .before .before .before .before .if2 .left),
-  sym (c .before .before .before .before .before .before .before .before .before .sound-readings .ensures) ∙ not-false _ (c .before .before .before .before .before .before .before .before .if3 .left),
-  sym (c .before .before .before .before .before .before .before .sound-values .ensures) ∙ not-false _ (c .before .before .before .before .before .before .if4 .left),
-  sym (c .before .before .before .before .before .sound-axis .ensures) ∙ not-false _ (c .before .before .before .before .if5 .left),
-  sym (c .before .before .before .is-rising .ensures) ∙ not-false _ (c .before .before .if6 .left),
-  lt-ltb _ _ (rw (c .before .most-peaks .ensures) at (c .if7 .taken)),
-)
-
-returns-8 : tie.Need-returns-8
-unfolding rowNumber firstOf
-returns-8 c = rw (
-  sym (c .before .before .before .before .before .before .before .before .before .before .before .before .same-lengths .ensures) ∙ not-false _ (c .before .before .before .before .before .before .before .before .before .before .before .if1 .left),
-  le-ltb _ _ (c .before .before .before .before .before .before .before .before .before .before .if2 .left),
-  sym (c .before .before .before .before .before .before .before .before .before .sound-readings .ensures) ∙ not-false _ (c .before .before .before .before .before .before .before .before .if3 .left),
-  sym (c .before .before .before .before .before .before .before .sound-values .ensures) ∙ not-false _ (c .before .before .before .before .before .before .if4 .left),
-  sym (c .before .before .before .before .before .sound-axis .ensures) ∙ not-false _ (c .before .before .before .before .if5 .left),
-  sym (c .before .before .before .is-rising .ensures) ∙ not-false _ (c .before .before .if6 .left),
-  le-ltb _ _ (rw (c .before .most-peaks .ensures) at (c .if7 .left)),
-)
+abbrev past6 : tie.Else6 → Left
+past6 c = past (past5 (c .before .before)) (by (c .before .is-rising .ensures) (c .if6 .left))
 
 pub number-spec : {M : Type 1} → statement M
 number-spec =
     tie.close
     (tie.spec
-    same-lengths-requires
-    returns
-    returns-2
-    sound-readings-requires
-    returns-3
-    sound-values-requires
-    returns-4
-    sound-axis-requires
-    returns-5
-    is-rising-requires
-    returns-6
-    most-peaks-requires
-    mul-if7
-    returns-7
-    returns-8)
+    (λ c κs. search needs)
+    (λ c. refused (past0 (c .before)) (by (c .before .same-lengths .ensures) (c .if1 .taken)))
+    (λ c. refused (past1 (c .before)) (lt-ltb _ _ (c .if2 .taken)))
+    (λ c κs. search needs)
+    (λ c. refused (past2 (c .before .before)) (by (c .before .sound-readings .ensures) (c .if3 .taken)))
+    (λ c κs. search needs)
+    (λ c. refused (past3 (c .before .before)) (by (c .before .sound-values .ensures) (c .if4 .taken)))
+    (λ c κs. search needs)
+    (λ c. refused (past4 (c .before .before)) (by (c .before .sound-axis .ensures) (c .if5 .taken)))
+    (λ c κs. search needs)
+    (λ c. refused (past5 (c .before .before)) (by (c .before .is-rising .ensures) (c .if6 .taken)))
+    (λ c κs. search needs)
+    (λ c. search needs)
+    (λ c. refused (past6 (c .before .before)) (lt-ltb _ _ (rw (c .before .most-peaks .ensures) at (c .if7 .taken))))
+    (λ c. accepted (past (past6 (c .before .before)) (le-ltb _ _ (rw (c .before .most-peaks .ensures) at (c .if7 .left)))) refl))

@@ -1,2 +1,0 @@
--- What the proofs of `baselines` cite.
-pub mod Laws

@@ -1,3 +1,0 @@
--- The definitions that the contracts of `baselines` cite.
-pub mod Baselines
-pub mod Links

@@ -1,0 +1,38 @@
+-- What the number of a row says, and which answer it is. Assumes nothing.
+use mathlib.Core.Path.{_≡_, refl}
+use mathlib.Core.Bool.{true, false, cond}
+use mathlib.Core.List.{List}
+use Prim.Native.Nat.{ℕ, _<_}
+use lib.Dec.{eqb}
+use lib.Ieee.{Float}
+use Rattle.refusal.specs.Refusal.{ascendingFrom, Lowest}
+use Rattle.refusal.specs.RefusalLaws.{lowest-by, none-by, appliesFor}
+use Rattle.refusal.specs.Answers.{answerBy}
+use Rattle.refusal.specs.AnswersLaws.{fromSays, which}
+use Rattle.params.specs.declared.ImDetectParams.{ImDetectParams}
+use Rattle.params.specs.declared.RowPlace.{RowPlace}
+use Rattle.params.specs.declared.FrameBounds.{FrameBounds}
+use Rattle.row.specs.declared.RowAnswer.{RowAnswer}
+use Rattle.row.specs.declared.RowAnswer.the-variants.{Peaks, Refused}
+use Rattle.row.specs.RowNumber.{rowChecks, rowNumber, number-is, rowSays}
+
+module _ (y z : List Float) (r : RowPlace) (f : FrameBounds) (mobility : List Float) (p : ImDetectParams) (axis : List ℕ) (first room : ℕ) where
+  ascending : ascendingFrom 0 (rowChecks y z r f mobility p axis first room) ≡ true
+  unfolding ascendingFrom
+  ascending = refl
+
+  -- it is the lowest that applies
+  pub number-lowest : 0 < rowNumber y z r f mobility p axis first room → Lowest (rowChecks y z r f mobility p axis first room) (rowNumber y z r f mobility p axis first room)
+  number-lowest h = lowest-by (rowChecks y z r f mobility p axis first room) (number-is y z r f mobility p axis first room) ascending h
+
+  -- where it is 0, the check with the number n does not apply
+  pub none-for : (n : ℕ) → rowNumber y z r f mobility p axis first room ≡ 0 → appliesFor n (rowChecks y z r f mobility p axis first room) ≡ false
+  none-for n e = none-by n (rowChecks y z r f mobility p axis first room) (number-is y z r f mobility p axis first room) ascending e
+
+-- an answer is told by what it says
+again : (r : RowAnswer) → r ≡ fromSays Peaks Refused (rowSays r)
+again (Peaks count) = refl
+again (Refused n) = refl
+
+pub row-which : (r : RowAnswer) (n count : ℕ) → rowSays r ≡ answerBy n count → r ≡ cond (eqb n 0) (Peaks count) (Refused n)
+row-which r n count e = which Peaks Refused rowSays again r n count e

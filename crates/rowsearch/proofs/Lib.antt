@@ -1,0 +1,2 @@
+-- What the proofs of `rowsearch` cite.
+pub mod Laws

@@ -1,0 +1,2 @@
+// Which apexes of a row are kept, and what is measured of them.
+pub mod inner;

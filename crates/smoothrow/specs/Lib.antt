@@ -1,0 +1,2 @@
+-- The definitions that the contracts of `smoothrow` cite.
+pub mod SmoothRow

@@ -1,0 +1,2 @@
+-- The definitions that the contracts of `turns` cite.
+pub mod Turns

@@ -1,0 +1,2 @@
+// Where a row turns: its valleys and its candidates.
+pub mod inner;
