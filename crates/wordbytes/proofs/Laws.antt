@@ -1,0 +1,105 @@
+-- Laws of buffers that are filled with words, and of tests that read words one by one. Assumes nothing.
+use mathlib.Core.Path.{_≡_, refl, sym, ap, _∙_, subst}
+use mathlib.Core.Bool.{Bool, true, false, not, _&&_}
+use mathlib.Core.List.{List, [], _∷_, _++_, map, append-assoc, append-nil}
+use Prim.Native.Nat.{ℕ, suc, _+_, _*_, _/_, _%_, _^_, _≤_, _<_}
+use native.Mathlib.Numerals.{add-one}
+use native.Mathlib.Omega.{arith}
+use borrow.Author.Tests.{lt-leb, ltb-true, ltb-false}
+use lib.Dec.{T, leb, ltb}
+use lib.ListN.{length, getD, take, drop, set}
+use lib.Seq.{take-all, take-suc, take-at, drop-at, drop-cons, drop-drop, length-take-le, set-at, sets-eq, drop-length}
+use lib.Ieee.{Float, nan, binary32, ofBits, toBits}
+use lib.Ieee.Bits.{toBits-ofBits, nanBits-is}
+use Rattle.numeric.specs.Numeric.{inRange, allInRange}
+use Rattle.numeric.proofs.Laws.{no-nan, is-nan, and-true, and-assoc}
+use Rattle.params.specs.Params.{allUpTo}
+use Rattle.wordbytes.specs.Bytes.{wordsOf, floatsOf, bytesOfWord, bytesOf, withWord}
+use Rattle.wordbytes.specs.BytesLaws.{words-length, floats-length, bytes-append, bytes-length}
+
+-- ---- a buffer that is filled from the front
+pub fill-turn : {A : Type 0} (l d out : List A) (i : ℕ) (z v : A) → i < length l → i < length d → out ≡ take i l ++ drop i d → v ≡ getD l i z
+    → set out i v ≡ take (i + 1) l ++ drop (i + 1) d
+fill-turn l d out i z v h g e w =
+    let s : take (suc i) l ≡ take i l ++ (getD l i z ∷ []) = take-suc l i z h in
+    let c : drop i d ≡ getD d i z ∷ drop (suc i) d = drop-cons d i z g in
+    rw (e, w, add-one, s, c, append-assoc) (set-at (take i l) (getD d i z) (drop (suc i) d) (getD l i z) i (length-take-le i l (omega arith)))
+
+pub fill-done : {A : Type 0} (l d out : List A) (i : ℕ) → i ≡ length d → out ≡ take i l ++ drop i d → out ≡ take (length d) l
+fill-done l d out i h e = e ∙ rw (h, drop-length, append-nil)
+
+-- ---- words that are written
+pub put4 : (b : List ℕ) (i p q r s : ℕ) → i + 4 ≤ length b
+    → set (set (set (set b i p) (i + 1) q) (i + 2) r) (i + 3) s ≡ take i b ++ ((p ∷ q ∷ r ∷ s ∷ []) ++ drop (i + 4) b)
+put4 b i p q r s h =
+    let e1 : i + 1 ≡ suc i = omega arith in
+    let e2 : i + 2 ≡ suc (suc i) = omega arith in
+    let e3 : i + 3 ≡ suc (suc (suc i)) = omega arith in
+    rw (e1, e2, e3) (sets-eq (p ∷ q ∷ r ∷ s ∷ []) b i h ∙ append-assoc (take i b) (p ∷ q ∷ r ∷ s ∷ []) (drop (i + 4) b))
+
+-- n items P at the front of the buffer d, and r items R right behind them
+pub behind : {A : Type 0} (P R d out next : List A) (n r : ℕ) → length P ≡ n → out ≡ P ++ drop n d → next ≡ take n out ++ (R ++ drop (n + r) out)
+    → next ≡ (P ++ R) ++ drop (n + r) d
+behind P R d out next n r l e o =
+    let t : take n out ≡ P = ap (take n) e ∙ take-at P (drop n d) n l in
+    let q : drop (n + r) out ≡ drop (n + r) d =
+    sym (drop-drop r n out) ∙ ap (λ x. drop r (drop n x)) e ∙ ap (drop r) (drop-at P (drop n d) n l) ∙ drop-drop r n d in
+    o ∙ rw (t, q) (sym (append-assoc P R (drop (n + r) d)))
+
+-- one word more
+pub word-behind : (ws d out next : List ℕ) (i : ℕ) → i < length ws → out ≡ bytesOf (take i ws) ++ drop (i * 4) d → next ≡ withWord out i (getD ws i 0)
+    → next ≡ bytesOf (take (i + 1) ws) ++ drop ((i + 1) * 4) d
+unfolding withWord bytesOf
+word-behind ws d out next i h e o =
+    let w = getD ws i 0 in
+    let s : take (i + 1) ws ≡ take i ws ++ (w ∷ []) = rw add-one (take-suc ws i 0 h) in
+    let l : length (bytesOf (take i ws)) ≡ i * 4 = bytes-length (take i ws) ∙ ap (λ (k : ℕ). k * 4) (length-take-le i ws (omega arith)) in
+    let m : (i + 1) * 4 ≡ i * 4 + 4 = omega arith in
+    rw (s, m, bytes-append, append-nil) (behind (bytesOf (take i ws)) (bytesOfWord w) d out next (i * 4) 4 l e o)
+
+-- ---- readings as words
+nan-high : (limit : ℕ) → limit < 0x7f80_0000 → limit < toBits binary32 nan
+unfolding toBits
+nan-high limit h = omega arith
+
+pub range-word : (limit w : ℕ) → w < 2 ^ 32 → limit < 0x7f80_0000 → inRange limit (ofBits binary32 w) ≡ leb w limit
+unfolding inRange
+range-word limit w h g = go (ltb 0x7f80_0000 (w % 0x8000_0000)) refl
+  where
+    go : (b : Bool) → ltb 0x7f80_0000 (w % 0x8000_0000) ≡ b → leb (toBits binary32 (ofBits binary32 w)) limit ≡ leb w limit
+    go true e =
+        let k : 0x7f80_0000 < w % 0x8000_0000 = ltb-true _ _ e in
+        rw (is-nan w k) (lt-leb _ limit (nan-high limit g) ∙ sym (lt-leb w limit (omega arith)))
+    go false e =
+        let k : w % 0x8000_0000 ≤ 0x7f80_0000 = ltb-false _ _ e in
+        rw (toBits-ofBits binary32 w h (subst (λ (b : Bool). T (not b)) (nanBits-is binary32 w) (no-nan w k)))
+
+pub up-to-snoc : (limit : ℕ) (ws : List ℕ) (w : ℕ) → allUpTo limit (ws ++ (w ∷ [])) ≡ (allUpTo limit ws && leb w limit)
+unfolding allUpTo
+up-to-snoc limit [] w = and-true _
+up-to-snoc limit (v ∷ ws) w = rw (up-to-snoc limit ws w) (and-assoc (leb v limit) (allUpTo limit ws) (leb w limit))
+
+pub range-snoc : (limit : ℕ) (ws : List ℕ) (w : ℕ) → w < 2 ^ 32 → limit < 0x7f80_0000
+    → allInRange limit (map (ofBits binary32) (ws ++ (w ∷ []))) ≡ (allInRange limit (map (ofBits binary32) ws) && leb w limit)
+unfolding allInRange
+range-snoc limit [] w h g = rw (range-word limit w h g) (and-true _)
+range-snoc limit (v ∷ ws) w h g =
+    rw (range-snoc limit ws w h g)
+    (and-assoc (inRange limit (ofBits binary32 v)) (allInRange limit (map (ofBits binary32) ws)) (leb w limit))
+
+-- ---- whole lists, decoded into arrays
+pub decode-room : {A : Type 0} (b : List ℕ) (zeros : List A) → length b / 4 ≤ length zeros → length (take (length b / 4) zeros) * 4 ≤ length b
+decode-room b zeros h = rw (length-take-le (length b / 4) zeros h) (omega arith)
+
+pub decode-from : {A : Type 0} (b : List ℕ) (zeros : List A) → length b / 4 ≤ length zeros → (0 + length (take (length b / 4) zeros)) * 4 ≤ length b
+decode-from b zeros h = omega (arith, decode-room b zeros h)
+
+pub decoded-floats : (b : List ℕ) (zeros last : List Float) → length b / 4 ≤ length zeros
+    → last ≡ take (length (take (length b / 4) zeros)) (drop 0 (floatsOf b)) → last ≡ floatsOf b
+decoded-floats b zeros last h e =
+    e ∙ rw (length-take-le (length b / 4) zeros h) (take-all (length b / 4) (floatsOf b) (let l : length (floatsOf b) ≡ length b / 4 = floats-length b in omega arith))
+
+pub decoded-words : (b zeros last : List ℕ) → length b / 4 ≤ length zeros
+    → last ≡ take (length (take (length b / 4) zeros)) (wordsOf b) → last ≡ wordsOf b
+decoded-words b zeros last h e =
+    e ∙ rw (length-take-le (length b / 4) zeros h) (take-all (length b / 4) (wordsOf b) (let l : length (wordsOf b) ≡ length b / 4 = words-length b (length b / 4) in omega arith))

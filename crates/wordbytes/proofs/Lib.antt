@@ -1,0 +1,2 @@
+-- The laws that the proofs of `wordbytes` and of the crates above it use.
+pub mod Laws
