@@ -2,7 +2,7 @@
  *
  * Lists are bytes: words of four bytes, the lowest first; a float is the word of its IEEE 754 binary32 bit pattern. A length
  * is that of the bytes. The function is total: it takes anything, keeps nothing, allocates nothing and needs less than 1 MiB
- * of stack (some 0.6 MiB). It may be called from several threads on buffers of their own.
+ * of stack (some 0.5 MiB for rows of more than 1,024 columns). It may be called from several threads on buffers of their own.
  */
 #ifndef RUBZOLENA_H
 #define RUBZOLENA_H

@@ -1,5 +1,4 @@
-//! The C entry needs less than 1 MiB of stack, whatever the grid: the widest rows, smoothed and not, and rows whose baselines are
-//! filled in one sweep.
+//! The C entry needs less than 1 MiB of stack, whatever the grid: the widest rows, smoothed and not, with as many peaks as they can have.
 use rubzolena::{Grid, TofScale};
 
 #[test]

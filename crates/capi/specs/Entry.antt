@@ -1,26 +1,45 @@
 -- What the C entry of grid detection answers: 64 times the count of peaks, and the number.
-use mathlib.Core.Path.{_≡_}
-use mathlib.Core.Bool.{Bool, cond, _&&_, _||_}
-use mathlib.Core.List.{List, _++_}
-use Prim.Native.Nat.{ℕ, _*_, _/_, _%_}
+use mathlib.Core.Path.{_≡_, refl}
+use mathlib.Core.Bool.{Bool, cond, not, _&&_, _||_}
+use mathlib.Core.List.{List, [], _∷_, _++_}
+use Prim.Native.Nat.{ℕ, _*_, _/_, _%_, _<_}
 use lib.Dec.{ltb, eqb}
 use lib.ListN.{length, drop}
 use lib.Ieee.{Float}
+use Rattle.refusal.specs.Refusal.{Check, firstOf, ascendingFrom, Lowest}
+use Rattle.refusal.specs.RefusalLaws.{lowest}
 use Rattle.params.specs.declared.ImDetectParams.{ImDetectParams}
 use Rattle.params.specs.declared.FrameBounds.{FrameBounds}
 use Rattle.params.specs.declared.WindowGroup.{WindowGroup}
 use Rattle.params.specs.declared.WindowGroup.the-variants.{Missing, Group}
 use Rattle.tof.specs.declared.TofScale.{TofScale}
-use Rattle.grid.specs.Grid.{Grid, countTo, wordsTo as gridWords}
-use Rattle.grid.specs.GridNumber.{gridNumber}
-use Rattle.capi.specs.Bytes.{wordsOf, floatsOf, bytesOf}
+use Rattle.row.specs.Written.{Written, stride}
+use Rattle.grid.specs.Grid.{Grid, countTo, wordsTo}
+use Rattle.grid.specs.GridNumber.{gridChecks}
+use Rattle.grid.specs.Steps.{gridOf}
+use Rattle.wordbytes.specs.Bytes.{wordsOf, floatsOf, bytesOf}
+use Rattle.wordbytes.specs.BytesLaws.{bytes-append, bytes-length}
 
--- The number of the slice form, which lends a scratch that is long enough, but for two more reasons: 1 where bytes are no whole
--- words, 4 where the flag of the window group is neither 0 nor 1. The lowest counts.
+-- ---- the number
+
+-- checks of which the one with the number n applies for a further reason
+unfoldable pub also : ℕ → Bool → List Check → List Check
+also n reason [] = []
+also n reason (c ∷ cs) = cond (eqb (c .number) n) (record { number = n; applies = reason || c .applies } ∷ cs) (c ∷ also n reason cs)
+
+-- The checks of the slice form, which lends a scratch that is long enough, with two more reasons: 1 where bytes are no whole words, 4
+-- where the flag of the window group is neither 0 nor 1.
+abbrev pub entryChecks : Bool → ℕ → Grid → ℕ → ℕ → List Check
+entryChecks whole flag g rows room = also 1 (not whole) (also 4 (ltb 1 flag) (gridChecks g rows room (g .cols)))
+
 unfoldable pub entryNumber : Bool → ℕ → Grid → ℕ → ℕ → ℕ
-entryNumber whole flag g rows room =
-    let n = gridNumber g rows room (g .cols) in
-    cond whole (cond (ltb 1 flag && (eqb n 0 || ltb 4 n)) 4 n) 1
+entryNumber whole flag g rows room = firstOf (entryChecks whole flag g rows room)
+
+-- it is the lowest that applies
+pub entry-lowest : (whole : Bool) (flag : ℕ) (g : Grid) (rows room : ℕ) → 0 < entryNumber whole flag g rows room
+    → Lowest (entryChecks whole flag g rows room) (entryNumber whole flag g rows room)
+unfolding entryNumber also ascendingFrom
+entry-lowest whole flag g rows room h = lowest 0 (entryChecks whole flag g rows room) refl h
 
 abbrev pub entryAnswer : ℕ → ℕ → ℕ
 entryAnswer number count = cond (eqb number 0) (count * 64) number
@@ -51,29 +70,19 @@ scaleOf least most step bins = record { «tof_min» = least; «tof_max» = most;
 abbrev pub paramsOf : Float → ℕ → ℕ → ImDetectParams
 paramsOf prom distance width = record { «min_prom» = prom; «min_distance_scans» = distance; «min_width_scans» = width }
 
--- the grid of lists, and of lists in bytes
-abbrev pub gridOf : ℕ → List Float → List ℕ → TofScale → FrameBounds → List Float → ImDetectParams → List Float → ℕ → Grid
-gridOf cols used scans scale bounds mobility p weights first =
-    record {
-      cols = cols;
-      used = used;
-      scans = scans;
-      scale = scale;
-      bounds = bounds;
-      mobility = mobility;
-      params = p;
-      weights = weights;
-      first = first;
-    }
-
+-- the grid of lists in bytes
 abbrev pub entryGrid : ℕ → List ℕ → List ℕ → TofScale → FrameBounds → List ℕ → ImDetectParams → List ℕ → ℕ → Grid
 entryGrid cols used scans scale bounds mobility p weights first =
     gridOf cols (floatsOf used) (wordsOf scans) scale bounds (floatsOf mobility) p (floatsOf weights) first
 
 -- ---- the answer
 
+-- words written as four bytes each
+abbrev pub asBytes : Written
+asBytes = record { unit = 4; put = bytesOf; joined = bytes-append; long = bytes-length }
+
 -- The answer and the bytes that are left. Accepted, the records of all peaks stand at the front; refused, the bytes are as they
 -- were. `whole` says that the lists are whole words.
 pub record Answered (whole : Bool) (flag : ℕ) (g : Grid) (rows : ℕ) (out₀ out : List ℕ) (r : ℕ) : Type 0 where
   pub answer : r ≡ entryAnswer (entryNumber whole flag g rows (length out₀ / 4)) (countTo g rows)
-  pub bytes : out ≡ cond (eqb (entryNumber whole flag g rows (length out₀ / 4)) 0) (bytesOf (gridWords g rows) ++ drop (108 * countTo g rows) out₀) out₀
+  pub bytes : out ≡ cond (eqb (entryNumber whole flag g rows (length out₀ / 4)) 0) (bytesOf (wordsTo g rows) ++ drop (countTo g rows * stride asBytes) out₀) out₀

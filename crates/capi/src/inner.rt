@@ -1,308 +1,185 @@
-// Words in bytes, and detection over a grid in bytes that the caller has checked.
+// Detection over a grid in bytes that the caller has checked.
 use params::FrameBounds;
 use params::ImDetectParams;
 use params::RowPlace;
 use record::ImPeak1D;
-use row::inner::Listing;
-use row::inner::Search;
-use row::inner::Step;
+use record::PeakId;
+use row::inner::OnAxes;
+use rowsearch::inner::Measured;
+use smoothrow::inner::Sought;
 use tof::TofScale;
 ghost use mathlib.Core.Path.{_≡_};
-ghost use mathlib.Core.Bool.{true};
-ghost use mathlib.Core.List.{_++_};
-ghost use Prim.Native.Nat.{_≤_, _<_, _+_, _*_, _/_};
-ghost use lib.ListN.{length, take, drop};
-ghost use Rattle.numeric.specs.Arith.{𝟎};
-ghost use Rattle.numeric.specs.Numeric.{allInRange};
-ghost use Rattle.apex.specs.Apex.{Ground};
-ghost use Rattle.baselines.specs.Baselines.{Baselines};
-ghost use Rattle.params.specs.Params.{allUpTo};
+ghost use mathlib.Core.List.{List, []};
+ghost use Prim.Native.Nat.{ℕ, _≤_, _<_, _+_, _*_, _/_};
+ghost use lib.ListN.{length};
+ghost use Rattle.params.specs.Params.{mostPeaks};
 ghost use Rattle.smoothing.specs.Smoothing.{normalised};
-ghost use Rattle.row.specs.Row.{highest, reaches, kept, rowWords};
+ghost use Rattle.rowsearch.specs.Found.{Standing};
+ghost use Rattle.row.specs.Row.{scanAt, mobilityAt, mobilityFlag, onAxes};
+ghost use Rattle.row.specs.Written.{stride, withRecord};
 ghost use Rattle.row.specs.Steps as row;
-ghost use Rattle.row.specs.declared.inner.Listing.the-variants.{All};
-ghost use Rattle.capi.specs.Bytes.{wordAt, wordsOf, floatsOf, bytesOf};
-ghost use Rattle.capi.specs.Entry.{gridOf, entryGrid};
-ghost use Rattle.capi.specs.Steps.{withWord, withRecord, Front, Handed, Listed, RowReady, RowDone, Ready, Done};
+ghost use Rattle.grid.specs.Steps.{gridOf, Handed, Listed, Lent, RowReady, RowDone, Ready, Done};
+ghost use Rattle.wordbytes.specs.Bytes.{wordsOf, floatsOf};
+ghost use Rattle.capi.specs.Entry.{asBytes, entryGrid};
+ghost use Rattle.capi.specs.Steps.{Fit};
 
-// ---- words in bytes
+// Rows that are worked through in one part.
+const MANY_ROWS: usize = 65536;
 
-fn join(a: u8, b: u8, c: u8, d: u8) -> u32
-    ensures { λ r. ⌜ r ≡ a + 256 * b + 65536 * c + 16777216 * d ⌝ }
-{
-    (a as u32) + 256 * (b as u32) + 65536 * (c as u32) + 16777216 * (d as u32)
-}
-
-// The word at place k.
-fn word_at(b: &[u8], k: usize) -> u32
-    requires { ⌜ k * 4 + 4 ≤ length (now b) ⌝ }
-    ensures { λ r. ⌜ r ≡ wordAt (now (b .entry)) k ⌝ }
-{
-    let i = k * 4;
-    join(b[i], b[i + 1], b[i + 2], b[i + 3])
-}
-
-fn put_word(b: &mut [u8], k: usize, w: u32)
-    requires { ⌜ k * 4 + 4 ≤ length (now b) ⌝ }
-    ensures { λ _. ⌜ now (b .exit) ≡ withWord (now (b .entry)) k w ⌝ }
-{
-    let i = k * 4;
-    b[i] = (w % 256) as u8;
-    b[i + 1] = (w / 256 % 256) as u8;
-    b[i + 2] = (w / 65536 % 256) as u8;
-    b[i + 3] = (w / 16777216 % 256) as u8;
-}
-
-// Writes words to the front of `out`.
-fn put_words(out: &mut [u8], ws: &[u32])
-    requires { ⌜ length (now ws) * 4 ≤ length (now out) ⌝ }
-    ensures { λ _. ⌜ now (out .exit) ≡ bytesOf (now (ws .entry)) ++ drop (length (now (ws .entry)) * 4) (now (out .entry)) ⌝ }
-{
-    for i in 0..ws.len() {
-        put_word(out, i, ws[i]);
-    }
-}
+// ---- one peak
 
 // Writes the record of a peak to place k.
 fn put_record(out: &mut [u8], k: usize, p: ImPeak1D)
-    requires { ⌜ k * 108 + 108 ≤ length (now out) ⌝ }
-    ensures { λ _. ⌜ now (out .exit) ≡ withRecord (now (out .entry)) k p ⌝ }
+    requires { ⌜ k * stride asBytes + stride asBytes ≤ length (now out) ⌝ }
+    ensures { λ _. ⌜ now (out .exit) ≡ withRecord asBytes (now (out .entry)) k p ⌝ }
 {
-    let mut ws = [0u32; 27];
+    let mut ws = [0u32; ImPeak1D::WORDS];
     record::inner::put_peak(&mut ws, 0, p);
-    let at = k * 108;
-    put_words(&mut out[at..], &ws);
+    let at = k * ImPeak1D::BYTES;
+    wordbytes::inner::put_words(&mut out[at..], &ws);
 }
 
-// Fills `out` with the first words.
-pub fn decode_words(b: &[u8], out: &mut [u32])
-    requires { ⌜ length (now out) * 4 ≤ length (now b) ⌝ }
-    ensures { λ _. ⌜ now (out .exit) ≡ take (length (now (out .entry))) (wordsOf (now (b .entry))) ⌝ }
+fn scan_at(scans: &[u8], k: usize) -> u32
+    requires { ⌜ 0 < length (now scans) / 4 ⌝ }
+    ensures { λ r. ⌜ r ≡ scanAt (wordsOf (now (scans .entry))) k ⌝ }
 {
-    for i in 0..out.len() {
-        out[i] = word_at(b, i);
+    let last = scans.len() / 4 - 1;
+    if k < last {
+        return wordbytes::inner::word_at(scans, k);
+    }
+    wordbytes::inner::word_at(scans, last)
+}
+
+fn mobility_at(mobility: &[u8], i: usize) -> f32
+    ensures { λ r. ⌜ r ≡ mobilityAt (floatsOf (now (mobility .entry))) i ⌝ }
+{
+    if i < mobility.len() / 4 {
+        return numeric::float_of(wordbytes::inner::word_at(mobility, i));
+    }
+    0.0
+}
+
+fn mobility_flag(mobility: &[u8]) -> u32
+    ensures { λ r. ⌜ r ≡ mobilityFlag (floatsOf (now (mobility .entry))) ⌝ }
+{
+    if mobility.len() / 4 == 0 {
+        return 0;
+    }
+    ImPeak1D::HAS_MOBILITY
+}
+
+// Where an apex lies on a scan axis and a mobility table in bytes.
+fn on_axes(mobility: &[u8], scans: &[u8], a: Measured) -> OnAxes
+    requires { ⌜ 0 < length (now scans) / 4 ⌝ }
+    ensures { λ r. ⌜ r ≡ onAxes (floatsOf (now (mobility .entry))) (wordsOf (now (scans .entry))) a ⌝ }
+{
+    OnAxes {
+        scan: scan_at(scans, a.index),
+        left: scan_at(scans, a.left as usize),
+        right: scan_at(scans, a.right as usize),
+        mobility: mobility_at(mobility, a.index),
+        flag: mobility_flag(mobility),
     }
 }
 
-// Fills `out` with the floats from the word `from` on.
-pub fn decode_floats(b: &[u8], from: usize, out: &mut [f32])
-    requires { ⌜ (from + length (now out)) * 4 ≤ length (now b) ⌝ }
-    ensures { λ _. ⌜ now (out .exit) ≡ take (length (now (out .entry))) (drop from (floatsOf (now (b .entry)))) ⌝ }
-{
-    for i in 0..out.len() {
-        out[i] = numeric::float_of(word_at(b, from + i));
-    }
-}
+// ---- the peaks of rows
 
-// Whether every word is at most the limit; below the patterns of infinities and NaNs, whether every float is in range.
-pub fn all_words_up_to(b: &[u8], limit: u32) -> bool
-    ensures words { λ r. ⌜ r ≡ allUpTo limit (wordsOf (now (b .entry))) ⌝ }
-    ensures floats { λ r. ⌜ (limit < 0x7f80_0000 → r ≡ allInRange limit (floatsOf (now (b .entry)))) ⌝ }
-{
-    let n = b.len() / 4;
-    let mut all = true;
-    for i in 0..n {
-        all = all & (word_at(b, i) <= limit);
-    }
-    all
-}
-
-// ---- the records of peaks, as bytes
-
-// Writes the records of the listed peaks that a search still has to answer behind the n that stand at the front of `out`,
-// and answers how many there are then.
-fn list_from(
-    y: &[f32],
-    z: &[f32],
-    ground: f32,
-    bases: &[f32],
-    place: RowPlace,
-    bounds: FrameBounds,
-    mobility: &[f32],
-    p: ImDetectParams,
-    axis: &[u32],
-    first: u32,
-    from: Search,
-    listed: usize,
-    out: &mut [u8],
-) -> Listing
-    requires { ⌜ row.Ready (now y) (now z) (now axis) first (length (now out) / 4) × Ground ground (now y) × Baselines (now y) (now bases) × row.Part (Front place bounds (now mobility) (now axis) (now y) (now z) first) p (now y) from (now out) listed ⌝ }
-    ensures { λ r. ⌜ row.FilledUp (Front place bounds (now (mobility .entry)) (now (axis .entry)) (now (y .entry)) (now (z .entry)) first) p (now (y .entry)) (length (now (bases .entry))) from (now (out .entry)) listed (now (out .exit)) r ⌝ }
-{
-    let mut n = listed;
-    let mut s = from;
-    loop {
-        let step = row::inner::next_peak(y, ground, bases, p, s);
-        match step {
-            Step::Peak(a, t) => {
-                let peak = row::inner::peak_of(
-                    y,
-                    z,
-                    place,
-                    bounds,
-                    mobility,
-                    axis,
-                    a,
-                    first + n as u32,
-                );
-                put_record(out, n, peak);
-                n += 1;
-                s = t;
-            }
-            Step::Deep(t) => {
-                return Listing::Deep(n, t);
-            }
-            Step::End => {
-                return Listing::All(n);
-            }
-        }
-    }
-}
-
-// The same with the baselines of the whole row filled first.
-fn list_deep(
-    y: &[f32],
-    z: &[f32],
-    ground: f32,
-    place: RowPlace,
-    bounds: FrameBounds,
-    mobility: &[f32],
-    p: ImDetectParams,
-    axis: &[u32],
-    first: u32,
-    from: Search,
-    listed: usize,
-    out: &mut [u8],
-) -> usize
-    requires { ⌜ row.Ready (now y) (now z) (now axis) first (length (now out) / 4) × Ground ground (now y) × (length (now y) ≤ 16384) × row.Part (Front place bounds (now mobility) (now axis) (now y) (now z) first) p (now y) from (now out) listed ⌝ }
-    ensures { λ r. ⌜ row.FilledUp (Front place bounds (now (mobility .entry)) (now (axis .entry)) (now (y .entry)) (now (z .entry)) first) p (now (y .entry)) (length (now (y .entry))) from (now (out .entry)) listed (now (out .exit)) (All r) ⌝ }
-{
-    let mut bases = [0f32; 16384];
-    let mut links = [0u32; 16384];
-    let mut lows = [0f32; 16384];
-    baselines::inner::fill_baselines(y, &mut bases, &mut links, &mut lows);
-    let l = list_from(
-        y,
-        z,
-        ground,
-        &bases,
-        place,
-        bounds,
-        mobility,
-        p,
-        axis,
-        first,
-        from,
-        listed,
-        out,
-    );
-    match l {
-        Listing::All(n) => n,
-        Listing::Deep(n, _) => n,
-    }
-}
-
-// Writes the records of the listed peaks of a row that reaches the floor to the front of `out` and answers how many there are.
-fn list_peaks(
+// Writes the records of the n apexes that stand in `found` to the front of `out`, the oldest first.
+fn put_peaks(
+    found: &[u32],
+    n: usize,
     y: &[f32],
     z: &[f32],
     place: RowPlace,
     bounds: FrameBounds,
-    mobility: &[f32],
-    p: ImDetectParams,
-    axis: &[u32],
-    first: u32,
+    mobility: &[u8],
+    scans: &[u8],
+    first: PeakId,
     out: &mut [u8],
-) -> usize
-    requires { ⌜ row.Ready (now y) (now z) (now axis) first (length (now out) / 4) × (reaches (p .«min_prom») (highest 𝟎 (now z)) ≡ true) ⌝ }
-    ensures count { λ r. ⌜ r ≡ length (kept p (now (y .entry)) (now (z .entry))) ⌝ }
-    ensures front { λ r. ⌜ now (out .exit) ≡ bytesOf (rowWords place bounds (now (mobility .entry)) (now (axis .entry)) (now (y .entry)) (now (z .entry)) first (kept p (now (y .entry)) (now (z .entry)))) ++ drop (r * 108) (now (out .entry)) ⌝ }
+)
+    requires { ⌜ row.Ready (now y) (now z) (wordsOf (now scans)) first (length (now out) / 4) × (n ≤ mostPeaks (length (now y))) × ((ks : List ℕ) × Standing (now y) (now z) (now found) n ks) ⌝ }
+    ensures { λ _. ⌜ ((ks : List ℕ) → Standing (now (y .entry)) (now (z .entry)) (now (found .entry)) n ks → row.Listed asBytes place bounds (floatsOf (now (mobility .entry))) (wordsOf (now (scans .entry))) (now (y .entry)) (now (z .entry)) first (now (out .entry)) (now (out .exit)) n ks) ⌝ }
 {
-    let ground = apex::inner::ground_of(y);
-    let s = row::inner::search_start(y.len());
-    let l = list_from(
-        y,
-        z,
-        ground,
-        &y[..0],
-        place,
-        bounds,
-        mobility,
-        p,
-        axis,
-        first,
-        s,
-        0,
-        out,
-    );
-    match l {
-        Listing::All(n) => n,
-        Listing::Deep(n, t) => list_deep(
-            y,
-            z,
-            ground,
-            place,
-            bounds,
-            mobility,
-            p,
-            axis,
-            first,
-            t,
-            n,
-            out,
-        ),
+    for j in 0..n {
+        let a = rowsearch::inner::measured_at(found, j);
+        let on = on_axes(mobility, scans, a);
+        let peak = row::inner::peak_on(y, z, place, bounds, on, a, first + j as PeakId);
+        put_record(out, j, peak);
     }
 }
 
-// The records of the peaks of a row z, smoothed where weights are given; u are the weights divided by their sum.
+// Writes the records of the peaks of a row z, smoothed into y where weights are given, to the front of `out`, and answers how many
+// there are; u are the weights divided by their sum. The lists for turns, bases and what is found are scratch too.
 fn list_row(
     z: &[f32],
     place: RowPlace,
     bounds: FrameBounds,
-    mobility: &[f32],
+    mobility: &[u8],
     p: ImDetectParams,
-    axis: &[u32],
+    scans: &[u8],
     weights: &[f32],
     u: &[f32],
-    first: u32,
-    y: &mut [f32],
+    first: PeakId,
     out: &mut [u8],
+    y: &mut [f32],
+    turns: &mut [u32],
+    bases: &mut [u32],
+    found: &mut [u32],
 ) -> usize
-    requires { ⌜ Handed (now z) (now axis) (now weights) (now u) first (length (now out) / 4) (length (now y)) ⌝ }
-    ensures { λ n. ⌜ Listed place bounds (now (mobility .entry)) p (now (axis .entry)) (now (weights .entry)) (now (z .entry)) first (now (out .entry)) (now (out .exit)) n ⌝ }
+    requires { ⌜ Handed (now z) (wordsOf (now scans)) (now weights) (now u) first (length (now out) / 4) (length (now y)) (length (now turns)) (length (now bases)) (length (now found)) ⌝ }
+    ensures { λ n. ⌜ Listed asBytes place bounds (floatsOf (now (mobility .entry))) p (wordsOf (now (scans .entry))) (now (weights .entry)) (now (z .entry)) first (now (out .entry)) (now (out .exit)) n ⌝ }
 {
-    if !row::inner::reaches_floor(z, p.min_prom) {
-        return 0;
+    let sought = smoothrow::inner::search_row(z, p, weights, u, y, turns, bases, found);
+    match sought {
+        Sought::Nothing => 0,
+        Sought::Raw(n) => {
+            put_peaks(found, n, z, z, place, bounds, mobility, scans, first, out);
+            n
+        }
+        Sought::Smoothed(n) => {
+            let cols = z.len();
+            put_peaks(
+                found,
+                n,
+                &y[..cols],
+                z,
+                place,
+                bounds,
+                mobility,
+                scans,
+                first,
+                out,
+            );
+            n
+        }
     }
-    if (weights.len() == 0) | (z.len() <= 2) {
-        return list_peaks(z, z, place, bounds, mobility, p, axis, first, out);
-    }
-    smoothing::inner::smooth_by(z, u, y);
-    list_peaks(y, z, place, bounds, mobility, p, axis, first, out)
 }
 
-// The records of the peaks of row r, with identities from `first` on; z and y are lent for the row and the smoothed one.
+// The records of the peaks of row r, with identities from `first` on; the row is decoded into z.
 fn detect_row(
-    used: &[u8],
-    cols: usize,
     r: usize,
-    scans: &[u32],
+    cols: usize,
+    used: &[u8],
+    scans: &[u8],
     scale: TofScale,
     bounds: FrameBounds,
-    mobility: &[f32],
+    mobility: &[u8],
     p: ImDetectParams,
     weights: &[f32],
     u: &[f32],
-    first: u32,
+    first: PeakId,
+    out: &mut [u8],
     z: &mut [f32],
     y: &mut [f32],
-    out: &mut [u8],
+    turns: &mut [u32],
+    bases: &mut [u32],
+    found: &mut [u32],
 ) -> usize
-    requires { ⌜ RowReady (gridOf cols (floatsOf (now used)) (now scans) scale bounds (now mobility) p (now weights) first) (now u) r (length (now out)) (length (now z)) (length (now y)) ⌝ }
-    ensures { λ n. ⌜ RowDone (gridOf cols (floatsOf (now (used .entry))) (now (scans .entry)) scale bounds (now (mobility .entry)) p (now (weights .entry)) first) r (now (out .entry)) (now (out .exit)) n ⌝ }
+    requires { ⌜ RowReady (gridOf cols (floatsOf (now used)) (wordsOf (now scans)) scale bounds (floatsOf (now mobility)) p (now weights) first) (now u) r (length (now out) / 4) × (length (now z) ≡ cols) × Lent cols (length (now y)) (length (now turns)) (length (now bases)) (length (now found)) ⌝ }
+    ensures { λ n. ⌜ RowDone asBytes (gridOf cols (floatsOf (now (used .entry))) (wordsOf (now (scans .entry))) scale bounds (floatsOf (now (mobility .entry))) p (now (weights .entry)) first) r (now (out .entry)) (now (out .exit)) n ⌝ }
 {
     let place = tof::inner::row_place(scale, r as u32);
-    decode_floats(used, r * cols, z);
+    wordbytes::inner::decode_floats(used, r * cols, z);
     list_row(
         z,
         place,
@@ -313,39 +190,47 @@ fn detect_row(
         weights,
         u,
         first,
-        y,
         out,
+        y,
+        turns,
+        bases,
+        found,
     )
 }
 
-// The records of the peaks of all rows, with identities that run on from `first`.
-fn each_row(
-    rows: usize,
-    used: &[u8],
+// The records of the peaks of the rows from `from` to `to`, with identities that run on from `first`.
+fn detect_rows(
+    from: usize,
+    to: usize,
     cols: usize,
-    scans: &[u32],
+    used: &[u8],
+    scans: &[u8],
     scale: TofScale,
     bounds: FrameBounds,
-    mobility: &[f32],
+    mobility: &[u8],
     p: ImDetectParams,
     weights: &[f32],
     u: &[f32],
-    first: u32,
+    first: PeakId,
+    out: &mut [u8],
     z: &mut [f32],
     y: &mut [f32],
-    out: &mut [u8],
+    turns: &mut [u32],
+    bases: &mut [u32],
+    found: &mut [u32],
 ) -> usize
-    requires { ⌜ Ready (gridOf cols (floatsOf (now used)) (now scans) scale bounds (now mobility) p (now weights) first) rows (length (now out)) × (now u ≡ normalised (now weights)) × (length (now z) ≡ cols) × (length (now y) ≡ cols) ⌝ }
-    ensures { λ n. ⌜ Done (gridOf cols (floatsOf (now (used .entry))) (now (scans .entry)) scale bounds (now (mobility .entry)) p (now (weights .entry)) first) rows (now (out .entry)) (now (out .exit)) n ⌝ }
+    requires { ⌜ Ready (gridOf cols (floatsOf (now used)) (wordsOf (now scans)) scale bounds (floatsOf (now mobility)) p (now weights) first) from to (length (now out) / 4) × (now u ≡ normalised (now weights)) × (length (now z) ≡ cols) × Lent cols (length (now y)) (length (now turns)) (length (now bases)) (length (now found)) ⌝ }
+    ensures { λ n. ⌜ Done asBytes (gridOf cols (floatsOf (now (used .entry))) (wordsOf (now (scans .entry))) scale bounds (floatsOf (now (mobility .entry))) p (now (weights .entry)) first) from to (now (out .entry)) (now (out .exit)) n ⌝ }
 {
     let mut n = 0usize;
-    for r in 0..rows {
-        let at = n * 108;
-        let id = first + n as u32;
+    let mut r = from;
+    while r < to {
+        let at = n * ImPeak1D::BYTES;
+        let id = first + n as PeakId;
         n += detect_row(
-            used,
-            cols,
             r,
+            cols,
+            used,
             scans,
             scale,
             bounds,
@@ -354,78 +239,51 @@ fn each_row(
             weights,
             u,
             id,
+            &mut out[at..],
             z,
             y,
-            &mut out[at..],
+            turns,
+            bases,
+            found,
         );
+        r += 1;
     }
     n
 }
 
-// The same, with room for a row and a smoothed row.
-fn detect_rows(
-    rows: usize,
-    used: &[u8],
-    cols: usize,
-    scans: &[u32],
-    scale: TofScale,
-    bounds: FrameBounds,
-    mobility: &[f32],
-    p: ImDetectParams,
-    weights: &[f32],
-    u: &[f32],
-    first: u32,
-    out: &mut [u8],
-) -> usize
-    requires { ⌜ Ready (gridOf cols (floatsOf (now used)) (now scans) scale bounds (now mobility) p (now weights) first) rows (length (now out)) × (now u ≡ normalised (now weights)) ⌝ }
-    ensures { λ n. ⌜ Done (gridOf cols (floatsOf (now (used .entry))) (now (scans .entry)) scale bounds (now (mobility .entry)) p (now (weights .entry)) first) rows (now (out .entry)) (now (out .exit)) n ⌝ }
-{
-    let mut z = [0f32; 16384];
-    let mut y = [0f32; 16384];
-    each_row(
-        rows,
-        used,
-        cols,
-        scans,
-        scale,
-        bounds,
-        mobility,
-        p,
-        weights,
-        u,
-        first,
-        &mut z[..cols],
-        &mut y[..cols],
-        out,
-    )
-}
-
 // The same for weights in bytes, which are divided by their sum once.
-fn detect_weights(
-    rows: usize,
-    used: &[u8],
+fn detect_smoothed(
+    from: usize,
+    to: usize,
     cols: usize,
-    scans: &[u32],
+    used: &[u8],
+    scans: &[u8],
     scale: TofScale,
     bounds: FrameBounds,
-    mobility: &[f32],
+    mobility: &[u8],
     p: ImDetectParams,
     weights: &[u8],
-    first: u32,
+    first: PeakId,
     out: &mut [u8],
+    z: &mut [f32],
+    y: &mut [f32],
+    turns: &mut [u32],
+    bases: &mut [u32],
+    found: &mut [u32],
 ) -> usize
-    requires { ⌜ Ready (gridOf cols (floatsOf (now used)) (now scans) scale bounds (now mobility) p (floatsOf (now weights)) first) rows (length (now out)) ⌝ }
-    ensures { λ n. ⌜ Done (gridOf cols (floatsOf (now (used .entry))) (now (scans .entry)) scale bounds (now (mobility .entry)) p (floatsOf (now (weights .entry))) first) rows (now (out .entry)) (now (out .exit)) n ⌝ }
+    requires { ⌜ Ready (entryGrid cols (now used) (now scans) scale bounds (now mobility) p (now weights) first) from to (length (now out) / 4) × (length (now z) ≡ cols) × Lent cols (length (now y)) (length (now turns)) (length (now bases)) (length (now found)) ⌝ }
+    ensures { λ n. ⌜ Done asBytes (entryGrid cols (now (used .entry)) (now (scans .entry)) scale bounds (now (mobility .entry)) p (now (weights .entry)) first) from to (now (out .entry)) (now (out .exit)) n ⌝ }
 {
     let m = weights.len() / 4;
-    let mut ws = [0f32; 257];
-    let mut u = [0f32; 257];
-    decode_floats(weights, 0, &mut ws[..m]);
+    let mut ws = [0f32; limits::MAX_WEIGHTS];
+    let mut u = [0f32; limits::MAX_WEIGHTS];
+    wordbytes::inner::decode_floats(weights, 0, &mut ws[..m]);
     smoothing::inner::normalise(&ws[..m], &mut u[..m]);
     detect_rows(
-        rows,
-        used,
+        from,
+        to,
         cols,
+        used,
         scans,
         scale,
         bounds,
@@ -435,12 +293,64 @@ fn detect_weights(
         &u[..m],
         first,
         out,
+        z,
+        y,
+        turns,
+        bases,
+        found,
     )
 }
 
-// The same for everything in bytes.
-pub fn detect_bytes(
-    rows: usize,
+// The same for no weights, which fills no lists of them.
+fn detect_plain(
+    from: usize,
+    to: usize,
+    cols: usize,
+    used: &[u8],
+    scans: &[u8],
+    scale: TofScale,
+    bounds: FrameBounds,
+    mobility: &[u8],
+    p: ImDetectParams,
+    first: PeakId,
+    out: &mut [u8],
+    z: &mut [f32],
+    y: &mut [f32],
+    turns: &mut [u32],
+    bases: &mut [u32],
+    found: &mut [u32],
+) -> usize
+    requires { ⌜ Ready (gridOf cols (floatsOf (now used)) (wordsOf (now scans)) scale bounds (floatsOf (now mobility)) p [] first) from to (length (now out) / 4) × (length (now z) ≡ cols) × Lent cols (length (now y)) (length (now turns)) (length (now bases)) (length (now found)) ⌝ }
+    ensures { λ n. ⌜ Done asBytes (gridOf cols (floatsOf (now (used .entry))) (wordsOf (now (scans .entry))) scale bounds (floatsOf (now (mobility .entry))) p [] first) from to (now (out .entry)) (now (out .exit)) n ⌝ }
+{
+    let none = [0f32; 1];
+    let none_divided = [0f32; 1];
+    detect_rows(
+        from,
+        to,
+        cols,
+        used,
+        scans,
+        scale,
+        bounds,
+        mobility,
+        p,
+        &none[..0],
+        &none_divided[..0],
+        first,
+        out,
+        z,
+        y,
+        turns,
+        bases,
+        found,
+    )
+}
+
+// The same for weights in bytes, or none, and rows that are decoded into the front of z.
+fn detect_lent(
+    from: usize,
+    to: usize,
     cols: usize,
     used: &[u8],
     scans: &[u8],
@@ -449,26 +359,341 @@ pub fn detect_bytes(
     mobility: &[u8],
     p: ImDetectParams,
     weights: &[u8],
-    first: u32,
+    first: PeakId,
     out: &mut [u8],
+    z: &mut [f32],
+    y: &mut [f32],
+    turns: &mut [u32],
+    bases: &mut [u32],
+    found: &mut [u32],
 ) -> usize
-    requires { ⌜ Ready (entryGrid cols (now used) (now scans) scale bounds (now mobility) p (now weights) first) rows (length (now out)) ⌝ }
-    ensures { λ n. ⌜ Done (entryGrid cols (now (used .entry)) (now (scans .entry)) scale bounds (now (mobility .entry)) p (now (weights .entry)) first) rows (now (out .entry)) (now (out .exit)) n ⌝ }
+    requires { ⌜ Ready (entryGrid cols (now used) (now scans) scale bounds (now mobility) p (now weights) first) from to (length (now out) / 4) × (cols ≤ length (now z)) × Lent cols (length (now y)) (length (now turns)) (length (now bases)) (length (now found)) ⌝ }
+    ensures { λ n. ⌜ Done asBytes (entryGrid cols (now (used .entry)) (now (scans .entry)) scale bounds (now (mobility .entry)) p (now (weights .entry)) first) from to (now (out .entry)) (now (out .exit)) n ⌝ }
 {
-    let n = scans.len() / 4;
-    let k = mobility.len() / 4;
-    let mut axis = [0u32; 16384];
-    let mut table = [0f32; 16384];
-    decode_words(scans, &mut axis[..n]);
-    decode_floats(mobility, 0, &mut table[..k]);
-    detect_weights(
-        rows,
-        used,
+    if weights.len() == 0 {
+        return detect_plain(
+            from,
+            to,
+            cols,
+            used,
+            scans,
+            scale,
+            bounds,
+            mobility,
+            p,
+            first,
+            out,
+            &mut z[..cols],
+            y,
+            turns,
+            bases,
+            found,
+        );
+    }
+    detect_smoothed(
+        from,
+        to,
         cols,
-        &axis[..n],
+        used,
+        scans,
         scale,
         bounds,
-        &table[..k],
+        mobility,
+        p,
+        weights,
+        first,
+        out,
+        &mut z[..cols],
+        y,
+        turns,
+        bases,
+        found,
+    )
+}
+
+// The same with room for rows of 32, 256, 1,024 and 16,384 samples.
+fn detect_in_32(
+    from: usize,
+    to: usize,
+    cols: usize,
+    used: &[u8],
+    scans: &[u8],
+    scale: TofScale,
+    bounds: FrameBounds,
+    mobility: &[u8],
+    p: ImDetectParams,
+    weights: &[u8],
+    first: PeakId,
+    out: &mut [u8],
+) -> usize
+    requires { ⌜ Fit (entryGrid cols (now used) (now scans) scale bounds (now mobility) p (now weights) first) from to (length (now out)) × (cols ≤ 32) ⌝ }
+    ensures { λ n. ⌜ Done asBytes (entryGrid cols (now (used .entry)) (now (scans .entry)) scale bounds (now (mobility .entry)) p (now (weights .entry)) first) from to (now (out .entry)) (now (out .exit)) n ⌝ }
+{
+    let mut z = [0f32; 32];
+    let mut y = [0f32; 32];
+    let mut turns = [0u32; 32];
+    let mut bases = [0u32; 16];
+    let mut found = [0u32; 128];
+    detect_lent(
+        from,
+        to,
+        cols,
+        used,
+        scans,
+        scale,
+        bounds,
+        mobility,
+        p,
+        weights,
+        first,
+        out,
+        &mut z,
+        &mut y,
+        &mut turns,
+        &mut bases,
+        &mut found,
+    )
+}
+
+fn detect_in_256(
+    from: usize,
+    to: usize,
+    cols: usize,
+    used: &[u8],
+    scans: &[u8],
+    scale: TofScale,
+    bounds: FrameBounds,
+    mobility: &[u8],
+    p: ImDetectParams,
+    weights: &[u8],
+    first: PeakId,
+    out: &mut [u8],
+) -> usize
+    requires { ⌜ Fit (entryGrid cols (now used) (now scans) scale bounds (now mobility) p (now weights) first) from to (length (now out)) × (cols ≤ 256) ⌝ }
+    ensures { λ n. ⌜ Done asBytes (entryGrid cols (now (used .entry)) (now (scans .entry)) scale bounds (now (mobility .entry)) p (now (weights .entry)) first) from to (now (out .entry)) (now (out .exit)) n ⌝ }
+{
+    let mut z = [0f32; 256];
+    let mut y = [0f32; 256];
+    let mut turns = [0u32; 256];
+    let mut bases = [0u32; 128];
+    let mut found = [0u32; 1024];
+    detect_lent(
+        from,
+        to,
+        cols,
+        used,
+        scans,
+        scale,
+        bounds,
+        mobility,
+        p,
+        weights,
+        first,
+        out,
+        &mut z,
+        &mut y,
+        &mut turns,
+        &mut bases,
+        &mut found,
+    )
+}
+
+fn detect_in_1024(
+    from: usize,
+    to: usize,
+    cols: usize,
+    used: &[u8],
+    scans: &[u8],
+    scale: TofScale,
+    bounds: FrameBounds,
+    mobility: &[u8],
+    p: ImDetectParams,
+    weights: &[u8],
+    first: PeakId,
+    out: &mut [u8],
+) -> usize
+    requires { ⌜ Fit (entryGrid cols (now used) (now scans) scale bounds (now mobility) p (now weights) first) from to (length (now out)) × (cols ≤ 1024) ⌝ }
+    ensures { λ n. ⌜ Done asBytes (entryGrid cols (now (used .entry)) (now (scans .entry)) scale bounds (now (mobility .entry)) p (now (weights .entry)) first) from to (now (out .entry)) (now (out .exit)) n ⌝ }
+{
+    let mut z = [0f32; 1024];
+    let mut y = [0f32; 1024];
+    let mut turns = [0u32; 1024];
+    let mut bases = [0u32; 512];
+    let mut found = [0u32; 4096];
+    detect_lent(
+        from,
+        to,
+        cols,
+        used,
+        scans,
+        scale,
+        bounds,
+        mobility,
+        p,
+        weights,
+        first,
+        out,
+        &mut z,
+        &mut y,
+        &mut turns,
+        &mut bases,
+        &mut found,
+    )
+}
+
+fn detect_in_16384(
+    from: usize,
+    to: usize,
+    cols: usize,
+    used: &[u8],
+    scans: &[u8],
+    scale: TofScale,
+    bounds: FrameBounds,
+    mobility: &[u8],
+    p: ImDetectParams,
+    weights: &[u8],
+    first: PeakId,
+    out: &mut [u8],
+) -> usize
+    requires { ⌜ Fit (entryGrid cols (now used) (now scans) scale bounds (now mobility) p (now weights) first) from to (length (now out)) × (cols ≤ 16384) ⌝ }
+    ensures { λ n. ⌜ Done asBytes (entryGrid cols (now (used .entry)) (now (scans .entry)) scale bounds (now (mobility .entry)) p (now (weights .entry)) first) from to (now (out .entry)) (now (out .exit)) n ⌝ }
+{
+    let mut z = [0f32; 16384];
+    let mut y = [0f32; 16384];
+    let mut turns = [0u32; 16384];
+    let mut bases = [0u32; 8192];
+    let mut found = [0u32; 65536];
+    detect_lent(
+        from,
+        to,
+        cols,
+        used,
+        scans,
+        scale,
+        bounds,
+        mobility,
+        p,
+        weights,
+        first,
+        out,
+        &mut z,
+        &mut y,
+        &mut turns,
+        &mut bases,
+        &mut found,
+    )
+}
+
+// The records of the peaks of the rows from `from` to `to`. Many rows are worked through in two halves. This function calls itself, so a
+// compiler keeps the lists of the three below out of its frame, and short rows do not pay for the lists of long ones.
+pub fn detect_bytes(
+    from: usize,
+    to: usize,
+    cols: usize,
+    used: &[u8],
+    scans: &[u8],
+    scale: TofScale,
+    bounds: FrameBounds,
+    mobility: &[u8],
+    p: ImDetectParams,
+    weights: &[u8],
+    first: PeakId,
+    out: &mut [u8],
+) -> usize
+    requires { ⌜ Fit (entryGrid cols (now used) (now scans) scale bounds (now mobility) p (now weights) first) from to (length (now out)) ⌝ }
+    ensures { λ n. ⌜ Done asBytes (entryGrid cols (now (used .entry)) (now (scans .entry)) scale bounds (now (mobility .entry)) p (now (weights .entry)) first) from to (now (out .entry)) (now (out .exit)) n ⌝ }
+{
+    if to - from > MANY_ROWS {
+        let mid = from + (to - from) / 2;
+        let n = detect_bytes(
+            from,
+            mid,
+            cols,
+            used,
+            scans,
+            scale,
+            bounds,
+            mobility,
+            p,
+            weights,
+            first,
+            out,
+        );
+        let at = n * ImPeak1D::BYTES;
+        let id = first + n as PeakId;
+        let m = detect_bytes(
+            mid,
+            to,
+            cols,
+            used,
+            scans,
+            scale,
+            bounds,
+            mobility,
+            p,
+            weights,
+            id,
+            &mut out[at..],
+        );
+        return n + m;
+    }
+    if cols <= 32 {
+        return detect_in_32(
+            from,
+            to,
+            cols,
+            used,
+            scans,
+            scale,
+            bounds,
+            mobility,
+            p,
+            weights,
+            first,
+            out,
+        );
+    }
+    if cols <= 256 {
+        return detect_in_256(
+            from,
+            to,
+            cols,
+            used,
+            scans,
+            scale,
+            bounds,
+            mobility,
+            p,
+            weights,
+            first,
+            out,
+        );
+    }
+    if cols <= 1024 {
+        return detect_in_1024(
+            from,
+            to,
+            cols,
+            used,
+            scans,
+            scale,
+            bounds,
+            mobility,
+            p,
+            weights,
+            first,
+            out,
+        );
+    }
+    detect_in_16384(
+        from,
+        to,
+        cols,
+        used,
+        scans,
+        scale,
+        bounds,
+        mobility,
         p,
         weights,
         first,

@@ -3,35 +3,44 @@ use mathlib.Core.Path.{_≡_, refl, sym, ap, _∙_}
 use mathlib.Core.Bool.{Bool, true, false, cond, not, _&&_, _||_}
 use mathlib.Core.List.{List, [], _++_, append-assoc, append-nil}
 use Prim.Native.Nat.{ℕ, zero, suc, _+_, _-_, _*_, _/_, _%_, _^_, _≤_, _<_}
-use native.Mathlib.Nat.{mul-le-mul, mul-le-mul-right, add-mul, add-zero, zero-add, sub-zero, mul-zero, mul-div-cancel, mul-mod-left, div-add-mod'}
+use native.Mathlib.Nat.{mul-le-mul, mul-le-mul-right, add-mul, add-zero, zero-mul, sub-zero, mul-zero, add-comm, mul-div-cancel, mul-mod-left, div-add-mod'}
 use native.Mathlib.Numerals.{add-one}
 use native.Mathlib.Omega.{arith}
 use borrow.Author.Tests.{eq-eqb, ne-eqb, eqb-true, eqb-false, ltb-false, leb-true, not-false}
+use borrow.Rule.Slice.PartMut.{putMid}
 use lib.Dec.{leb, ltb, eqb}
 use lib.ListN.{length, take, drop, length-drop, length-take, length-append}
 use lib.Seq.{take-at, drop-at, length-take-le, drop-drop}
 use lib.Ieee.{Float}
+use Rattle.refusal.specs.Refusal.{firstOf}
+use Rattle.refusal.specs.AnswersLaws.{says-number, says-values}
+use Rattle.refusal.specs.Bools.{clash, both, all3, all4, all5, neither}
 use Rattle.numeric.specs.Numeric.{allInRange}
-use Rattle.numeric.specs.Refusal.{firstOf}
-use Rattle.numeric.proofs.Laws.{clash}
+use Rattle.numeric.proofs.Patterns.{all-take, all-drop}
 use Rattle.record.specs.Record.{size}
-use Rattle.params.specs.Params.{mostPeaks, lentOrEmpty, soundParams, soundBounds, enoughIds, allUpTo, rising}
+use Rattle.record.proofs.Laws.{put-part}
+use Rattle.params.specs.Params.{mostPeaks, soundParams, soundBounds, enoughIds, allUpTo, rising}
 use Rattle.params.specs.declared.ImDetectParams.{ImDetectParams}
 use Rattle.params.specs.declared.RowPlace.{RowPlace}
 use Rattle.params.specs.declared.FrameBounds.{FrameBounds}
-use Rattle.smoothing.specs.Smoothing.{tabulate, smoothedAt, smoothed, normalised, soundWeights}
-use Rattle.smoothing.proofs.Laws.{smoothed-length}
-use Rattle.row.specs.Row.{kept, rowWords}
+use Rattle.smoothing.specs.Smoothing.{normalised, soundWeights}
+use Rattle.rowsearch.specs.Qualifying.{kept}
+use Rattle.rowsearch.specs.QualifyingLaws.{kept-count}
+use Rattle.smoothrow.specs.SmoothRow.{searched, soundOrNone}
+use Rattle.smoothrow.proofs.Laws.{searched-length}
+use Rattle.row.specs.Row.{rowWords}
+use Rattle.row.specs.RowWords.{row-words-length}
+use Rattle.row.specs.Written.{Written, asWords, stride}
 use Rattle.row.specs.Steps as row
-use Rattle.row.specs.RowLaws.{kept-count, row-words-length}
-use Rattle.record.proofs.Laws.{put-part}
-use borrow.Rule.Slice.PartMut.{putMid}
+use Rattle.row.proofs.Laws.{put-none, put-length}
+use Rattle.row.proofs.Laws as rows
 use Rattle.tof.specs.Tof.{rowPlace, soundStep, soundEnds, agreeing}
-use Rattle.grid.specs.Grid.{Grid, usedOf, rowOf, searched, listedIn, countTo, wordsTo}
-use Rattle.grid.specs.GridNumber.{gridNumber}
+use Rattle.grid.specs.Grid.{Grid, usedOf, rowOf, searchedOf, listedIn, wordsIn, countFrom, wordsFrom, countTo, wordsTo}
+use Rattle.grid.specs.GridNumber.{seenIn, checksOf, gridNumber}
+use Rattle.grid.specs.GridNumberLaws.{none-for}
+use Rattle.grid.specs.declared.inner.Seen.{Seen}
 use Rattle.grid.specs.declared.GridAnswer.the-variants.{Peaks, Refused}
-use Rattle.grid.proofs.Zeros.{both}
-use Rattle.grid.specs.Steps.{Handed, Listed, RowReady, RowDone, Ready, Done, Answered, numberFor, numbered, wordsIn, countFrom, wordsFrom}
+use Rattle.grid.specs.Steps.{Handed, Listed, Lent, RowReady, RowDone, Ready, Done, Answered, numberFor, numbered}
 
 -- ---- which readings are worked on
 pub smooth-used : (raw smooth : List Float) → length raw ≡ 0 → usedOf raw smooth ≡ smooth
@@ -40,49 +49,6 @@ smooth-used raw smooth h = rw (eq-eqb (length raw) 0 h)
 pub raw-used : (raw smooth : List Float) → (length raw ≡ 0 → ⊥) → usedOf raw smooth ≡ raw
 raw-used raw smooth h = rw (ne-eqb (length raw) 0 h)
 
--- ---- the row that is searched
-pub as-it-is : (weights z : List Float) → (eqb (length weights) 0 || leb (length z) 2) ≡ true → searched weights z ≡ z
-unfolding searched
-as-it-is weights z h = rw h
-
-pub as-smoothed : (weights z : List Float) → (eqb (length weights) 0 || leb (length z) 2) ≡ false → searched weights z ≡ smoothed weights z
-unfolding searched
-as-smoothed weights z h = rw h
-
-searched-length : (weights z : List Float) → length (searched weights z) ≡ length z
-searched-length weights z = go (eqb (length weights) 0 || leb (length z) 2) refl
-  where
-    go : (b : Bool) → (eqb (length weights) 0 || leb (length z) 2) ≡ b → length (searched weights z) ≡ length z
-    go true e = ap length (as-it-is weights z e)
-    go false e = ap length (as-smoothed weights z e) ∙ smoothed-length weights z
-
--- the smoothed row at the front of the scratch
-pub smoothed-front : (weights u z d scratch : List Float) → u ≡ normalised weights → scratch ≡ tabulate (length z) (smoothedAt u z) ++ drop (length z) d
-    → (take (length z) scratch ≡ smoothed weights z) × (drop (length z) scratch ≡ drop (length z) d)
-unfolding smoothed
-smoothed-front weights u z d scratch e s =
-    let k : scratch ≡ smoothed weights z ++ drop (length z) d = s ∙ rw e in (
-      ap (take (length z)) k ∙ take-at (smoothed weights z) (drop (length z) d) (length z) (smoothed-length weights z),
-      ap (drop (length z)) k ∙ drop-at (smoothed weights z) (drop (length z) d) (length z) (smoothed-length weights z),
-    )
-
--- what the row finder asks does not depend on what is searched
-pub ready-for : (y z : List Float) (axis : List ℕ) (first room : ℕ) → length y ≡ length z → row.Ready z z axis first room → row.Ready y z axis first room
-ready-for y z axis first room e r =
-    record { raw = sym e; scans = r .scans ∙ sym e; short = rw e (r .short); words = rw e (r .words); ids = rw e (r .ids) }
-
-module _ (place : RowPlace) (bounds : FrameBounds) (mobility : List Float) (p : ImDetectParams) (axis : List ℕ) (weights z : List Float) (first : ℕ) where
-  pub listed-none : (out : List ℕ) (scratch : List Float) → kept p (searched weights z) z ≡ []
-      → Listed place bounds mobility p axis weights z first out out scratch scratch 0
-  unfolding rowWords
-  listed-none out scratch e = record { count = rw e; words = rw e; past = refl }
-
-  pub listed-by : (y : List Float) (d out : List ℕ) (s scratch : List Float) (n : ℕ) → searched weights z ≡ y → n ≡ length (kept p y z)
-      → out ≡ rowWords place bounds mobility axis y z first (kept p y z) ++ drop (n * size) d → drop (length z) scratch ≡ drop (length z) s
-      → Listed place bounds mobility p axis weights z first d out s scratch n
-  listed-by y d out s scratch n e c o k = record { count = rw e c; words = rw e o; past = k }
-
--- ---- one row of a grid
 pub used-le : (raw smooth : List Float) → length (usedOf raw smooth) ≤ length raw + length smooth
 used-le raw smooth = go (eqb (length raw) 0)
   where
@@ -90,25 +56,56 @@ used-le raw smooth = go (eqb (length raw) 0)
     go true = omega arith
     go false = omega arith
 
-module _ (g : Grid) (u : List Float) (r room space : ℕ) (h : RowReady g u r room space) where
-  row-length : length (rowOf g r) ≡ g .cols
+-- ---- one row
+
+-- what writing the records asks does not depend on what is searched
+pub ready-for : (y z : List Float) (axis : List ℕ) (first room : ℕ) → length y ≡ length z → row.Ready z z axis first room → row.Ready y z axis first room
+ready-for y z axis first room e r =
+    record { raw = sym e; scans = r .scans ∙ sym e; short = rw e (r .short); words = rw e (r .words); ids = rw e (r .ids) }
+
+module _ (w : Written) (place : RowPlace) (bounds : FrameBounds) (mobility : List Float) (p : ImDetectParams) (axis : List ℕ) (weights z : List Float) (first : ℕ) where
+  pub listed-by : (y : List Float) (d out : List ℕ) (n : ℕ) → searched weights z ≡ y → row.Listed w place bounds mobility axis y z first d out n (kept p y z)
+      → Listed w place bounds mobility p axis weights z first d out n
+  listed-by y d out n e l = record { count = rw e (l .count); words = rw e (l .front) }
+
+  pub listed-none : (d : List ℕ) → kept p (searched weights z) z ≡ [] → Listed w place bounds mobility p axis weights z first d d 0
+  listed-none d e =
+      let l = rows.listed-none place bounds mobility axis (searched weights z) z first w d in
+      record { count = rw e; words = rw e (l .front) }
+
+-- lists that are long enough
+pub lent : (n scratch turns bases found : ℕ) → n ≤ scratch → n ≤ turns → turns ≤ 2 * bases + 1 → 4 * turns ≤ found + 4 → Lent n scratch turns bases found
+lent n scratch turns bases found a b c d =
+    record { long = a; room = record { turns-long = b; bases-long = omega arith; found-long = omega arith } }
+
+-- ---- one row of a grid
+module _ (g : Grid) (u : List Float) (r room : ℕ) (h : RowReady g u r room) where
+  pub row-length : length (rowOf g r) ≡ g .cols
   row-length = length-take-le (g .cols) (drop (r * g .cols) (g .used)) (rw length-drop (omega (arith, h .readings)))
 
-  pub row-handed : (z : List Float) → z ≡ rowOf g r → Handed z (g .scans) (g .weights) u (g .first) room space
-  row-handed z e =
+  pub row-handed : (scratch turns bases found : ℕ) (z : List Float) → Lent (g .cols) scratch turns bases found → z ≡ rowOf g r
+      → Handed z (g .scans) (g .weights) u (g .first) room scratch turns bases found
+  row-handed scratch turns bases found z k e =
       let l : length z ≡ g .cols = ap length e ∙ row-length in
       record {
+        search =
+            record {
+              readings = rw e (all-take 0x4f80_0000 (g .cols) (drop (r * g .cols) (g .used)) (all-drop 0x4f80_0000 (r * g .cols) (g .used) (h .ranged)));
+              weighed = h .weighed;
+              divided = h .divided;
+              short = rw l (h .short);
+              long = rw l (k .long);
+              room = rw l (k .room);
+            };
         row = record { raw = refl; scans = h .scans ∙ sym l; short = rw l (h .short); words = rw l (h .words); ids = rw l (h .ids) };
-        divided = h .divided;
-        long = rw l (h .long);
       }
 
-  pub row-done : (place : RowPlace) (z : List Float) (d out : List ℕ) (s scratch : List Float) (n : ℕ) → z ≡ rowOf g r → place ≡ rowPlace (g .scale) r
-      → Listed place (g .bounds) (g .mobility) (g .params) (g .scans) (g .weights) z (g .first) d out s scratch n → RowDone g r d out s scratch n
+  pub row-done : (w : Written) (place : RowPlace) (z : List Float) (d out : List ℕ) (n : ℕ) → z ≡ rowOf g r → place ≡ rowPlace (g .scale) r
+      → Listed w place (g .bounds) (g .mobility) (g .params) (g .scans) (g .weights) z (g .first) d out n → RowDone w g r d out n
   unfolding listedIn
-  row-done place z d out s scratch n e f l =
-      let k : Listed (rowPlace (g .scale) r) (g .bounds) (g .mobility) (g .params) (g .scans) (g .weights) (rowOf g r) (g .first) d out s scratch n = rw (e, f) at l in
-      record { count = k .count; words = k .words; past = rw row-length at (k .past) }
+  row-done w place z d out n e f l =
+      let k : Listed w (rowPlace (g .scale) r) (g .bounds) (g .mobility) (g .params) (g .scans) (g .weights) (rowOf g r) (g .first) d out n = rw (e, f) at l in
+      record { count = k .count; words = k .words }
 
 -- ---- some rows of a grid
 
@@ -167,21 +164,33 @@ words-join g from a (suc b) =
     (append-assoc (wordsFrom g from a) (wordsFrom (numbered g (g .first + countFrom g from a)) (from + a) b) (wordsIn g (from + a + b) (g .first + countFrom g from a + countFrom g (from + a) b)))
 
 -- before the first row
-pub done-start : (g : Grid) (from : ℕ) (d : List ℕ) (s : List Float) → Done g from from d d s s 0
+pub done-start : (w : Written) (g : Grid) (from : ℕ) (d : List ℕ) → Done w g from from d d 0
 unfolding countFrom wordsFrom
-done-start g from d s = let e : from - from ≡ 0 = omega arith in record { count = rw e; words = rw e; past = refl }
+done-start w g from d = let e : from - from ≡ 0 = omega arith in record { count = rw e; words = rw (e, put-none w, zero-mul (stride w)) }
 
 -- after the last one
-pub done-end : (g : Grid) (from to r : ℕ) (d out : List ℕ) (s scratch : List Float) (n : ℕ) → r - from ≡ to - from
-    → Done g from r d out s scratch n → Done g from to d out s scratch n
-done-end g from to r d out s scratch n e h = record { count = rw e at (h .count); words = rw e at (h .words); past = h .past }
+pub done-end : (w : Written) (g : Grid) (from to r : ℕ) (d out : List ℕ) (n : ℕ) → r - from ≡ to - from → Done w g from r d out n → Done w g from to d out n
+done-end w g from to r d out n e h = record { count = rw e at (h .count); words = rw e at (h .words) }
+
+-- words written behind those that stand at the front of d, through the part of the list behind them
+put-behind : (w : Written) (W R d out last : List ℕ) (n m : ℕ) → length W ≡ n * size → out ≡ w .put W ++ drop (n * stride w) d
+    → last ≡ w .put R ++ drop (m * stride w) (take (length out - n * stride w) (drop (n * stride w) out))
+    → putMid (n * stride w) (length out - n * stride w) out last ≡ w .put (W ++ R) ++ drop ((n + m) * stride w) d
+put-behind w W R d out last n m h a b =
+    let K = stride w in
+    let l : length (w .put W) ≡ n * K = put-length w W n h in
+    let t : take (n * K) out ≡ w .put W = ap (take (n * K)) a ∙ take-at (w .put W) (drop (n * K) d) (n * K) l in
+    let q : drop (n * K) out ≡ drop (n * K) d = ap (drop (n * K)) a ∙ drop-at (w .put W) (drop (n * K) d) (n * K) l in
+    let v : drop (n * K + m * K) out ≡ drop ((n + m) * K) d =
+    sym (drop-drop (m * K) (n * K) out) ∙ ap (drop (m * K)) q ∙ drop-drop (m * K) (n * K) d ∙ ap (λ (i : ℕ). drop i d) (sym (add-mul n m K)) in
+    put-part out (w .put R) last (n * K) (m * K) b ∙ rw (t, v, w .joined W R) (sym (append-assoc (w .put W) (w .put R) (drop ((n + m) * K) d)))
 
 small-ids : (first n k most : ℕ) → n ≤ k * most → first < 2 ^ 32 → first + (n + most) ≤ 2 ^ 32 → (n < 2 ^ 32) × (first + n < 2 ^ 32)
 small-ids first n k zero a b c = let z : k * 0 ≡ 0 = mul-zero k in (omega arith, omega arith)
 small-ids first n k (suc most) a b c = (omega arith, omega arith)
 
 -- a turn at row r, with n peaks before it
-module _ (g : Grid) (from to room space : ℕ) (h : Ready g from to room space) (r n : ℕ) (low : from ≤ r) (high : r < to) (is : n ≡ countFrom g from (r - from)) where
+module _ (g : Grid) (from to room : ℕ) (h : Ready g from to room) (r n : ℕ) (low : from ≤ r) (high : r < to) (is : n ≡ countFrom g from (r - from)) where
   pub turn-most : n + mostPeaks (g .cols) ≤ (to - from) * mostPeaks (g .cols)
   turn-most =
       let m = mostPeaks (g .cols) in
@@ -196,55 +205,93 @@ module _ (g : Grid) (from to room space : ℕ) (h : Ready g from to room space) 
   pub turn-room : n * size + mostPeaks (g .cols) * size ≤ room
   turn-room = omega (arith, turn-most, h .words)
 
-  pub turn-ready : (u : List Float) (out : List ℕ) → u ≡ normalised (g .weights) → length out ≡ room
-      → RowReady (numbered g (g .first + n)) u r (length (take (length out - n * size) (drop (n * size) out))) space
-  turn-ready u out e l =
+  -- `left` words are left behind those of the n peaks
+  pub turn-ready : (u : List Float) (left : ℕ) → u ≡ normalised (g .weights) → room ≤ n * size + left → RowReady (numbered g (g .first + n)) u r left
+  turn-ready u left e l =
       let b : (r + 1) * g .cols ≤ to * g .cols = mul-le-mul-right (g .cols) (omega arith) in
       record {
         readings = omega (arith, product-step r (g .cols), h .readings);
+        ranged = h .ranged;
         scans = h .scans;
         short = h .short;
         scale = h .scale;
         bin = omega (arith, h .bins);
+        weighed = h .weighed;
         divided = e;
-        words = rw (length-take, length-drop) (omega (arith, turn-room));
+        words = omega (arith, turn-room);
         ids = omega (arith, turn-most, h .ids);
-        long = h .long;
       }
 
-  pub turn-done : (d out last : List ℕ) (s scratch next : List Float) (m : ℕ) → Done g from r d out s scratch n
-      → RowDone (numbered g (g .first + n)) r (take (length out - n * size) (drop (n * size) out)) last scratch next m
-      → Done g from (r + 1) d (putMid (n * size) (length out - n * size) out last) s next (n + m)
+  pub turn-done : (w : Written) (d out last : List ℕ) (m : ℕ) → Done w g from r d out n
+      → RowDone w (numbered g (g .first + n)) r (take (length out - n * stride w) (drop (n * stride w) out)) last m
+      → Done w g from (r + 1) d (putMid (n * stride w) (length out - n * stride w) out last) (n + m)
   unfolding countFrom wordsFrom listedIn
-  turn-done d out last s scratch next m a b =
+  turn-done w d out last m a b =
       let k = r - from in
       let e : r + 1 - from ≡ suc (r - from) = omega arith in
       let f : from + (r - from) ≡ r = omega arith in
-      let W = wordsFrom g from k in
-      let R = wordsIn g r (g .first + n) in
-      let l : length W ≡ n * size = words-length g from k ∙ ap (λ (i : ℕ). i * size) (sym is) in
-      let t : take (n * size) out ≡ W = ap (take (n * size)) (a .words) ∙ take-at W (drop (n * size) d) (n * size) l in
-      let q : drop (n * size) out ≡ drop (n * size) d = ap (drop (n * size)) (a .words) ∙ drop-at W (drop (n * size) d) (n * size) l in
-      let x : m * size + n * size ≡ (n + m) * size = omega arith in
-      let y : n * size + m * size ≡ m * size + n * size = omega arith in
-      let v : drop (n * size + m * size) out ≡ drop ((n + m) * size) d =
-      sym (drop-drop (m * size) (n * size) out) ∙ ap (drop (m * size)) q ∙ drop-drop (m * size) (n * size) d ∙ ap (λ (i : ℕ). drop i d) (y ∙ x) in
+      let l : length (wordsFrom g from k) ≡ n * size = words-length g from k ∙ ap (λ (i : ℕ). i * size) (sym is) in
       record {
         count = rw (e, countFrom, f, ← is, ← b .count);
-        words = put-part out R last (n * size) (m * size) (b .words) ∙ rw (t, v, e, wordsFrom, f, ← is) (sym (append-assoc W R (drop ((n + m) * size) d)));
-        past = b .past ∙ a .past;
+        words = put-behind w (wordsFrom g from k) (wordsIn g r (g .first + n)) d out last n m l (a .words) (b .words) ∙ rw (e, wordsFrom, f, ← is);
       }
 
--- ---- all rows of a grid
-pub count-all : (g : Grid) (k : ℕ) → countFrom g 0 k ≡ countTo g k
-unfolding countFrom countTo
-count-all g zero = refl
-count-all g (suc k) = rw (count-all g k, zero-add)
+-- ---- the rows in two parts
+module _ (g : Grid) (from mid to room : ℕ) (h : Ready g from to room) (low : from ≤ mid) (high : mid ≤ to) where
+  pub ready-front : Ready g from mid room
+  ready-front =
+      let m = mostPeaks (g .cols) in
+      let b : (mid - from) * m ≤ (to - from) * m = mul-le-mul-right m (omega arith) in
+      let c : mid * g .cols ≤ to * g .cols = mul-le-mul-right (g .cols) high in
+      record {
+        readings = omega (arith, h .readings);
+        ranged = h .ranged;
+        scans = h .scans;
+        short = h .short;
+        scale = h .scale;
+        bins = omega (arith, h .bins);
+        weighed = h .weighed;
+        words = omega (arith, h .words);
+        ids = omega (arith, h .ids);
+      }
 
-pub words-all : (g : Grid) (k : ℕ) → wordsFrom g 0 k ≡ wordsTo g k
-unfolding wordsFrom wordsTo
-words-all g zero = refl
-words-all g (suc k) = rw (words-all g k, count-all g k, zero-add)
+  -- n peaks are those of the first part, and `left` words are left behind theirs
+  module _ (n : ℕ) (is : n ≡ countFrom g from (mid - from)) where
+    both-parts : (to - from) * mostPeaks (g .cols) ≡ (mid - from) * mostPeaks (g .cols) + (to - mid) * mostPeaks (g .cols)
+    both-parts =
+        let e : to - from ≡ mid - from + (to - mid) = omega arith in
+        ap (λ (k : ℕ). k * mostPeaks (g .cols)) e ∙ add-mul (mid - from) (to - mid) (mostPeaks (g .cols))
+
+    pub few-first : n ≤ (mid - from) * mostPeaks (g .cols)
+    few-first = rw is (count-bound g from (mid - from))
+
+    pub ready-back : (left : ℕ) → room ≤ n * size + left → Ready (numbered g (g .first + n)) mid to left
+    ready-back left l =
+        record {
+          readings = h .readings;
+          ranged = h .ranged;
+          scans = h .scans;
+          short = h .short;
+          scale = h .scale;
+          bins = h .bins;
+          weighed = h .weighed;
+          words = omega (arith, both-parts, few-first, h .words);
+          ids = omega (arith, both-parts, few-first, h .ids);
+        }
+
+    pub done-join : (w : Written) (d out last : List ℕ) (m : ℕ) → Done w g from mid d out n
+        → Done w (numbered g (g .first + n)) mid to (take (length out - n * stride w) (drop (n * stride w) out)) last m
+        → Done w g from to d (putMid (n * stride w) (length out - n * stride w) out last) (n + m)
+    done-join w d out last m a b =
+        let k = mid - from in
+        let e : to - from ≡ k + (to - mid) = omega arith in
+        let f : from + (mid - from) ≡ mid = omega arith in
+        let l : length (wordsFrom g from k) ≡ n * size = words-length g from k ∙ ap (λ (i : ℕ). i * size) (sym is) in
+        let c : m ≡ countFrom g mid (to - mid) = b .count ∙ same-count g (g .first + n) mid (to - mid) in
+        record {
+          count = rw (e, count-join g from k (to - mid), f, ← is, ← c);
+          words = put-behind w (wordsFrom g from k) (wordsFrom (numbered g (g .first + n)) mid (to - mid)) d out last n m l (a .words) (b .words) ∙ rw (e, words-join g from k (to - mid), f, ← is);
+        }
 
 -- ---- the checks
 
@@ -269,84 +316,79 @@ no-columns l rows = rw mul-zero
 
 -- sizes that number 2 lets pass, and the peaks that they allow
 pub sizes-held : (rows cols : ℕ) → (ltb 4194304 rows || ltb 16384 cols) ≡ false → (rows ≤ 4194304) × (cols ≤ 16384) × (rows * mostPeaks cols ≤ 34359738368)
-sizes-held rows cols h = go (ltb 4194304 rows) (ltb 16384 cols) refl refl h
-  where
-    go : (a b : Bool) → ltb 4194304 rows ≡ a → ltb 16384 cols ≡ b → (a || b) ≡ false
-        → (rows ≤ 4194304) × (cols ≤ 16384) × (rows * mostPeaks cols ≤ 34359738368)
-    go true b e f k = clash true refl k
-    go false true e f k = clash true refl k
-    go false false e f k =
-        let p = ltb-false 4194304 rows e in
-        let q = ltb-false 16384 cols f in
-        let m : mostPeaks cols ≤ 8192 = omega arith in
-        (p, q, (let x : rows * mostPeaks cols ≤ 4194304 * 8192 = mul-le-mul p m in omega arith))
+sizes-held rows cols h =
+    let k = neither (ltb 4194304 rows) h in
+    let p = ltb-false 4194304 rows (k .0) in
+    let q = ltb-false 16384 cols (k .1) in
+    let m : mostPeaks cols ≤ 8192 = omega arith in
+    (p, q, (let x : rows * mostPeaks cols ≤ 4194304 * 8192 = mul-le-mul p m in omega arith))
 
--- none of the checks from the first on applies
-none-first : (b : Bool) (k rest : ℕ) → 0 < k → cond b k rest ≡ 0 → (b ≡ false) × (rest ≡ 0)
-none-first true k rest h e = absurd (omega arith)
-none-first false k rest h e = (refl, e)
-
-weights-held : (ws : List Float) → (eqb (length ws) 0 || soundWeights ws) ≡ true → length ws ≤ 257
+pub few-weights : (ws : List Float) → soundOrNone ws ≡ true → length ws ≤ 257
 unfolding soundWeights
-weights-held ws h = go (eqb (length ws) 0) refl h
+few-weights ws h = go (eqb (length ws) 0) refl h
   where
     go : (b : Bool) → eqb (length ws) 0 ≡ b → (b || soundWeights ws) ≡ true → length ws ≤ 257
     go true e k = omega (arith, eqb-true (length ws) 0 e)
-    go false e k =
-        let x = both (eqb (length ws % 2) 1 && leb (length ws) 257 && allInRange 0x3f80_0000 ws) _ k in
-        let y = both (eqb (length ws % 2) 1 && leb (length ws) 257) _ (x .0) in
-        leb-true (length ws) 257 (both (eqb (length ws % 2) 1) (leb (length ws) 257) (y .0) .1)
+    go false e k = leb-true (length ws) 257 (all4 (eqb (length ws % 2) 1) k .1)
+
+-- a table of n values or of none is no longer than n
+short-table : (l n : ℕ) → (eqb l 0 || eqb l n) ≡ true → l ≤ n
+short-table l n h = go (eqb l 0) (eqb l n) refl refl h
+  where
+    go : (a b : Bool) → eqb l 0 ≡ a → eqb l n ≡ b → (a || b) ≡ true → l ≤ n
+    go true b e f k = omega (arith, eqb-true l 0 e)
+    go false true e f k = omega (arith, eqb-true l n f)
+    go false false e f k = clash false k refl
+
+-- the number of what was seen
+pub seen-number : (g : Grid) (rows room space n : ℕ) (s : Seen) → s ≡ seenIn (g .used) (g .scans) (g .mobility) (g .weights)
+    → n ≡ firstOf (checksOf s rows (g .cols) (g .scale) (g .bounds) (g .params) (g .first) room space) → n ≡ gridNumber g rows room space
+unfolding gridNumber
+seen-number g rows room space n s e h = rw e at h
 
 -- a grid that no number refuses
-pub grid-ready : (g : Grid) (rows room space : ℕ) → gridNumber g rows room space ≡ 0 → Ready g 0 rows room space
-unfolding gridNumber firstOf
-grid-ready g rows room space e =
-    let n = g .cols in
-    let peaks = rows * mostPeaks n in
-    let c1 = none-first _ 1 _ (omega arith) e in
-    let c2 = none-first (ltb 4194304 rows || ltb 16384 n) 2 _ (omega arith) (c1 .1) in
-    let c3 = none-first (not (allInRange 0x4f80_0000 (g .used))) 3 _ (omega arith) (c2 .1) in
-    let c4 = none-first _ 4 _ (omega arith) (c3 .1) in
-    let c5 = none-first _ 5 _ (omega arith) (c4 .1) in
-    let c6 = none-first (not (eqb (length (g .weights)) 0 || soundWeights (g .weights))) 6 _ (omega arith) (c5 .1) in
-    let c7 = none-first (not (rising (g .scans))) 7 _ (omega arith) (c6 .1) in
-    let c20 = none-first (ltb room (peaks * size)) 20 _ (omega arith) (c7 .1) in
-    let c21 = none-first (ltb space n) 21 _ (omega arith) (c20 .1) in
-    let c22 = none-first (not (agreeing (g .scale))) 22 0 (omega arith) (c21 .1) in
-    let l3 = both (eqb (length (g .used)) (rows * n) && eqb (length (g .scans)) n && lentOrEmpty n (g .mobility)) (eqb rows (g .scale .«num_bins»)) (not-false _ (c1 .0)) in
-    let l2 = both (eqb (length (g .used)) (rows * n) && eqb (length (g .scans)) n) (lentOrEmpty n (g .mobility)) (l3 .0) in
-    let l1 = both (eqb (length (g .used)) (rows * n)) (eqb (length (g .scans)) n) (l2 .0) in
-    let v4 = both (soundParams (g .params) && allInRange 0x4980_0000 (g .mobility) && soundBounds (g .bounds) && soundStep (g .scale .«tof_step»)) (enoughIds (g .first) peaks) (not-false _ (c4 .0)) in
-    let v3 = both (soundParams (g .params) && allInRange 0x4980_0000 (g .mobility) && soundBounds (g .bounds)) (soundStep (g .scale .«tof_step»)) (v4 .0) in
-    let a = both (allUpTo 65535 (g .scans)) (soundEnds (g .scale)) (not-false _ (c5 .0)) in
-    let s = sizes-held rows n (c2 .0) in
+pub record Accepted (g : Grid) (rows room space : ℕ) : Type 0 where
+  pub ready : Ready g 0 rows room
+  pub narrow : g .cols ≤ 16384
+  pub long : g .cols ≤ space
+  pub table : length (g .mobility) ≤ g .cols
+
+pub accepted : (g : Grid) (rows room space : ℕ) → gridNumber g rows room space ≡ 0 → Accepted g rows room space
+accepted g rows room space e =
+    let l = all4 (eqb (length (g .used)) (rows * g .cols)) (not-false _ (none-for g rows room space 1 e)) in
+    let v = all5 (soundParams (g .params)) (not-false _ (none-for g rows room space 4 e)) in
+    let a = both (allUpTo 65535 (g .scans)) (not-false _ (none-for g rows room space 5 e)) in
+    let s = sizes-held rows (g .cols) (none-for g rows room space 2 e) in
     record {
-      readings = omega (arith, eqb-true (length (g .used)) (rows * n) (l1 .0));
-      scans = eqb-true (length (g .scans)) n (l1 .1);
-      short = omega arith;
-      scale = record { step = v3 .1; ends = a .1; agree = not-false _ (c22 .0) };
-      bins = omega (arith, eqb-true rows (g .scale .«num_bins») (l3 .1));
-      weights = weights-held (g .weights) (not-false _ (c6 .0));
-      words = rw sub-zero (ltb-false room (peaks * size) (c20 .0));
-      ids = rw sub-zero (leb-true (g .first + peaks) (2 ^ 32) (v4 .1));
-      long = ltb-false space n (c21 .0);
+      ready =
+          record {
+            readings = omega (arith, eqb-true (length (g .used)) (rows * g .cols) (l .0));
+            ranged = not-false _ (none-for g rows room space 3 e);
+            scans = eqb-true (length (g .scans)) (g .cols) (l .1);
+            short = omega (arith, s .1);
+            scale = record { step = v .3; ends = a .1; agree = not-false _ (none-for g rows room space 22 e) };
+            bins = omega (arith, eqb-true rows (g .scale .«num_bins») (l .3));
+            weighed = not-false _ (none-for g rows room space 6 e);
+            words = rw sub-zero (ltb-false _ _ (none-for g rows room space 20 e));
+            ids = rw sub-zero (leb-true _ _ (v .4));
+          };
+      narrow = s .1;
+      long = ltb-false space (g .cols) (none-for g rows room space 21 e);
+      table = short-table (length (g .mobility)) (g .cols) (l .2);
     }
+
+-- ---- the answer
 
 -- what is left of all rows of a grid with number 0, and of a grid with another number
 pub answered : (g : Grid) (rows : ℕ) (d out : List ℕ) (s scratch : List Float) (n : ℕ) → numberFor g rows d s ≡ 0 → length scratch ≡ length s
-    → Done g 0 rows d out s scratch n → Answered g rows d out s scratch (Peaks n)
-answered g rows d out s scratch n e l h =
+    → Done asWords g 0 rows d out n → drop (g .cols) scratch ≡ drop (g .cols) s → Answered g rows d out s scratch (Peaks n)
+answered g rows d out s scratch n e l h k =
     let z : rows - 0 ≡ rows = omega arith in
-    let c : n ≡ countTo g rows = h .count ∙ rw z (count-all g rows) in
-    record {
-      answered = rw e (ap Peaks c);
-      words = rw e (h .words ∙ rw (z, words-all g rows, c));
-      length-kept = l;
-      past = rw e (h .past);
-    }
+    let c : n ≡ countTo g rows = h .count ∙ rw z in
+    record { answered = says-values (countTo g rows) (sym e) refl c; words = rw e (h .words ∙ rw (z, c)); length-kept = l; past = rw e k }
 
 pub refused : (number : ℕ) (g : Grid) (rows : ℕ) (d : List ℕ) (s : List Float) → number ≡ numberFor g rows d s → (number ≡ 0 → ⊥)
     → Answered g rows d d s s (Refused number)
 refused number g rows d s i h =
     let e : eqb (numberFor g rows d s) 0 ≡ false = ap (λ (k : ℕ). eqb k 0) (sym i) ∙ ne-eqb number 0 h in
-    record { answered = rw e (ap Refused i); words = rw e; length-kept = refl; past = refl }
+    record { answered = says-number (countTo g rows) i h; words = rw e; length-kept = refl; past = refl }

@@ -1,3 +1,2 @@
 -- Laws that the proofs of `grid` share.
 pub mod Laws
-pub mod Zeros

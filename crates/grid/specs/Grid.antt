@@ -1,14 +1,15 @@
 -- The mobility peaks of all rows of a TOF grid.
-use mathlib.Core.Bool.{Bool, cond, _||_}
+use mathlib.Core.Bool.{cond}
 use mathlib.Core.List.{List, [], _++_}
 use Prim.Native.Nat.{ℕ, zero, suc, _+_, _*_}
-use lib.Dec.{leb, eqb}
+use lib.Dec.{eqb}
 use lib.ListN.{length, take, drop}
 use lib.Ieee.{Float}
 use Rattle.params.specs.declared.ImDetectParams.{ImDetectParams}
 use Rattle.params.specs.declared.FrameBounds.{FrameBounds}
-use Rattle.smoothing.specs.Smoothing.{smoothed}
-use Rattle.row.specs.Row.{kept, rowWords}
+use Rattle.rowsearch.specs.Qualifying.{kept}
+use Rattle.smoothrow.specs.SmoothRow.{searched}
+use Rattle.row.specs.Row.{rowWords}
 use Rattle.tof.specs.Tof.{rowPlace}
 use Rattle.tof.specs.declared.TofScale.{TofScale}
 
@@ -29,26 +30,33 @@ pub record Grid : Type 0 where
   pub weights : List Float
   pub first : ℕ
 
--- a row, and the row that is searched: smoothed where weights are given and it has more than 2 samples
+-- a row, and the row that is searched
 abbrev pub rowOf : Grid → ℕ → List Float
 rowOf g r = take (g .cols) (drop (r * g .cols) (g .used))
 
-unfoldable pub searched : List Float → List Float → List Float
-searched weights z = cond (eqb (length weights) 0 || leb (length z) 2) z (smoothed weights z)
+abbrev pub searchedOf : Grid → ℕ → List Float
+searchedOf g r = searched (g .weights) (rowOf g r)
 
--- the apexes of a row that are listed, the newest first
+-- the apexes of a row that are listed, the newest first, and their words, with identities from `first` on
 unfoldable pub listedIn : Grid → ℕ → List ℕ
-listedIn g r = kept (g .params) (searched (g .weights) (rowOf g r)) (rowOf g r)
+listedIn g r = kept (g .params) (searchedOf g r) (rowOf g r)
 
--- the peaks of the first r rows: how many there are, and their words, with identities that run on
-unfoldable pub countTo : Grid → ℕ → ℕ
-countTo g zero = 0
-countTo g (suc r) = countTo g r + length (listedIn g r)
+abbrev pub wordsIn : Grid → ℕ → ℕ → List ℕ
+wordsIn g r first =
+    rowWords (rowPlace (g .scale) r) (g .bounds) (g .mobility) (g .scans) (searchedOf g r) (rowOf g r) first (listedIn g r)
 
-unfoldable pub wordsTo : Grid → ℕ → List ℕ
-wordsTo g zero = []
-wordsTo g (suc r) =
-    wordsTo g r
-    ++ rowWords (rowPlace (g .scale) r) (g .bounds) (g .mobility) (g .scans) (searched (g .weights) (rowOf g r)) (rowOf g r)
-    (g .first + countTo g r)
-    (listedIn g r)
+-- the peaks of k rows from `from` on: how many there are, and their words, with identities that run on
+unfoldable pub countFrom : Grid → ℕ → ℕ → ℕ
+countFrom g from zero = 0
+countFrom g from (suc k) = countFrom g from k + length (listedIn g (from + k))
+
+unfoldable pub wordsFrom : Grid → ℕ → ℕ → List ℕ
+wordsFrom g from zero = []
+wordsFrom g from (suc k) = wordsFrom g from k ++ wordsIn g (from + k) (g .first + countFrom g from k)
+
+-- those of the first rows
+abbrev pub countTo : Grid → ℕ → ℕ
+countTo g rows = countFrom g 0 rows
+
+abbrev pub wordsTo : Grid → ℕ → List ℕ
+wordsTo g rows = wordsFrom g 0 rows

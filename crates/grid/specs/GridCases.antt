@@ -1,23 +1,24 @@
 -- Worked cases of the grid's number, by computation.
 use mathlib.Core.Path.{_≡_, refl}
 use mathlib.Core.List.{List, [], _∷_, map}
-use Prim.Native.Nat.{ℕ}
+use Prim.Native.Nat.{ℕ, _-_}
 use lib.Ieee.{Float, ofInt, ofBits, toBits}
 use Rattle.numeric.specs.Arith.{indexF, 𝟎, 𝟏}
 use Rattle.numeric.specs.Numeric.{inRange, allInRange}
-use Rattle.numeric.specs.Refusal.{firstOf}
+use Rattle.refusal.specs.Refusal.{firstOf}
+use Rattle.record.specs.Record.{size}
 use Rattle.params.specs.Params.{soundParams, soundBounds, allUpTo, rising, risingFrom}
 use Rattle.params.specs.declared.WindowGroup.the-variants.{Missing}
 use Rattle.smoothing.specs.Smoothing.{soundWeights}
 use Rattle.tof.specs.Tof.{soundStep, soundEnds, agreeing}
 use Rattle.grid.specs.Grid.{Grid}
 use Rattle.grid.specs.GridNumber.{gridNumber}
-use Rattle.grid.specs.Steps.{gridOf}
+use Rattle.grid.specs.Steps.{callGrid}
 
 -- TOF values from 0 on with step 1, so that `bins` rows end at `top`; floor, distances and frames are 0
 abbrev grid : ℕ → ℕ → List ℕ → List ℕ → List ℕ → List Float → ℕ → Grid
 grid top bins raw smooth scans weights first =
-    gridOf (lib.ListN.length scans) (map indexF raw) (map indexF smooth) scans
+    callGrid (lib.ListN.length scans) (map indexF raw) (map indexF smooth) scans
     (record { «tof_min» = 0; «tof_max» = top; «tof_step» = 1; «num_bins» = bins })
     (record { «rt_lo» = 0; «rt_hi» = 0; «frame_id_lo» = 0; «frame_id_hi» = 0; «window_group» = Missing })
     []
@@ -26,11 +27,11 @@ grid top bins raw smooth scans weights first =
     first
 
 -- no row: the scale has a bin, or its numbers disagree
-no-row : gridNumber (grid 0 1 [] [] (7 ∷ []) [] 0) 0 27 1 ≡ 1
+no-row : gridNumber (grid 0 1 [] [] (7 ∷ []) [] 0) 0 size 1 ≡ 1
 unfolding gridNumber firstOf
 no-row = refl
 
-no-bin : gridNumber (grid 0 0 [] [] (7 ∷ []) [] 0) 0 27 1 ≡ 22
+no-bin : gridNumber (grid 0 0 [] [] (7 ∷ []) [] 0) 0 size 1 ≡ 22
 unfolding gridNumber firstOf allInRange inRange soundParams soundBounds soundStep soundEnds agreeing allUpTo rising risingFrom ofBits toBits
 no-bin = refl
 
@@ -40,16 +41,16 @@ unfolding gridNumber firstOf allInRange inRange soundParams soundBounds soundSte
 no-column = refl
 
 -- where raw readings are present, the smoothed ones may have any length
-unused : gridNumber (grid 0 1 (0 ∷ 5 ∷ 0 ∷ []) (9 ∷ []) (7 ∷ 8 ∷ 9 ∷ []) [] 4294967295) 1 27 3 ≡ 0
+unused : gridNumber (grid 0 1 (0 ∷ 5 ∷ 0 ∷ []) (9 ∷ []) (7 ∷ 8 ∷ 9 ∷ []) [] 4294967295) 1 size 3 ≡ 0
 unfolding gridNumber firstOf allInRange inRange soundParams soundBounds soundStep soundEnds agreeing allUpTo rising risingFrom ofInt ofBits toBits
 unused = refl
 
 -- a scratch as long as a row is asked for without weights too, and after the room for the list
-no-scratch : gridNumber (grid 0 1 [] (0 ∷ 5 ∷ 0 ∷ []) (7 ∷ 8 ∷ 9 ∷ []) [] 0) 1 27 2 ≡ 21
+no-scratch : gridNumber (grid 0 1 [] (0 ∷ 5 ∷ 0 ∷ []) (7 ∷ 8 ∷ 9 ∷ []) [] 0) 1 size 2 ≡ 21
 unfolding gridNumber firstOf allInRange inRange soundParams soundBounds soundStep soundEnds agreeing allUpTo rising risingFrom ofInt ofBits toBits
 no-scratch = refl
 
-no-room : gridNumber (grid 0 1 [] (0 ∷ 5 ∷ 0 ∷ []) (7 ∷ 8 ∷ 9 ∷ []) [] 0) 1 26 2 ≡ 20
+no-room : gridNumber (grid 0 1 [] (0 ∷ 5 ∷ 0 ∷ []) (7 ∷ 8 ∷ 9 ∷ []) [] 0) 1 (size - 1) 2 ≡ 20
 unfolding gridNumber firstOf allInRange inRange soundParams soundBounds soundStep soundEnds agreeing allUpTo rising risingFrom ofInt ofBits toBits
 no-room = refl
 

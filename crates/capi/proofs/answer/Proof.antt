@@ -1,8 +1,8 @@
 use Prim.Native.Nat.{_/_}
 use Rattle.grid.specs.Grid.{Grid}
 use Rattle.capi.specs.Entry.{entryGrid, allWhole, entryNumber}
-use Rattle.capi.specs.Steps.{Ready}
-use Rattle.capi.proofs.Laws.{entry-zero, ready, count-fits, accepted, refused}
+use Rattle.capi.specs.Steps.{Fit}
+use Rattle.capi.proofs.Laws.{entry-zero, fit, count-fits, accepted, refused}
 use mathlib.Core.Path.{_≡_, sym, _∙_}
 use mathlib.Core.Bool.{Bool}
 use Prim.Native.Nat.{ℕ}
@@ -21,8 +21,8 @@ whole s = allWhole (length (s .args .used .now)) (length (s .args .scans .now)) 
 
 -- a call that no number refuses
 can : (s : tie.Start) (k : ℕ) → k ≡ entryNumber (whole s) (s .args .flag) (gridAt s) (s .args .rows) (length (s .args .out .now) / 4) → k ≡ 0
-    → Ready (gridAt s) (s .args .rows) (length (s .args .out .now))
-can s k e z = ready (gridAt s) (s .args .rows) (length (s .args .out .now)) (entry-zero (whole s) (s .args .flag) (gridAt s) (s .args .rows) (length (s .args .out .now) / 4) (sym e ∙ z))
+    → Fit (gridAt s) 0 (s .args .rows) (length (s .args .out .now))
+can s k e z = fit (gridAt s) (s .args .rows) (length (s .args .out .now)) (entry-zero (whole s) (s .args .flag) (gridAt s) (s .args .rows) (length (s .args .out .now) / 4) (sym e ∙ z))
 
 call-number-requires : tie.Need-call-number-requires
 call-number-requires c κs = search needs
@@ -31,7 +31,7 @@ detect-bytes-requires : tie.Need-detect-bytes-requires
 detect-bytes-requires c κs = can (c .before .before .before .before .before .before .before .before) _ (c .before .before .call-number .ensures) (c .before .if1 .taken)
 
 mul-result : tie.Need-mul-result
-mul-result c = let s = c .before .before .before .before .before .before .before .before .before .before .before in omega (arith, count-fits (gridAt s) (s .args .rows) _ _ _ _ (can s _ (c .before .before .before .before .before .call-number .ensures) (c .before .before .before .before .if1 .taken)) (c .before .before .detect-bytes .ensures))
+mul-result c = let s = c .before .before .before .before .before .before .before .before .before .before .before in omega (arith, count-fits (gridAt s) 0 (s .args .rows) _ _ _ _ (can s _ (c .before .before .before .before .before .call-number .ensures) (c .before .before .before .before .if1 .taken)) (c .before .before .detect-bytes .ensures))
 
 same-length : tie.Need-same-length
 same-length c = search needs

@@ -3,8 +3,10 @@ use native.Mathlib.Nat.{le-add-right}
 use lib.Seq.{take-at, length-take-le}
 use lib.ListN.{length-append}
 use Rattle.smoothing.specs.Smoothing.{soundWeights}
-use Rattle.capi.specs.Bytes.{floatsOf}
-use Rattle.capi.proofs.Laws.{floats-length, decode-from, decoded-floats, no-weights, long-weights, some-weights}
+use Rattle.wordbytes.specs.Bytes.{floatsOf}
+use Rattle.wordbytes.specs.BytesLaws.{floats-length}
+use Rattle.wordbytes.proofs.Laws.{decode-from, decoded-floats}
+use Rattle.capi.proofs.Laws.{no-weights, long-weights, some-weights}
 use mathlib.Core.Path.{sym, _∙_, ap}
 use native.Mathlib.Omega.{arith}
 use borrow.Author.Needs.{needs}

@@ -1,10 +1,24 @@
+use mathlib.Core.Path.{_≡_, refl, sym, _∙_, ap, subst}
+use mathlib.Core.Bool.{Bool, true, false, cond}
+use mathlib.Core.List.{List, [], _∷_, _++_}
+use mathlib.Core.Logic.{⊎-elim}
+use Prim.Native.Nat.{ℕ, zero, suc, _≤_, _<_, _-_, _+_, _*_}
+use native.Mathlib.Omega.{arith}
 use borrow.Author.Needs.{needs}
+use lib.Dec.{T, ltb, leb, eqb}
+use lib.ListN.{length, getD, drop, take, set}
+use lib.Ieee.{Float, nan, binary32, lt}
 use Rattle.grid.proofs.sound_weights.Statement.{statement}
 use Rattle.grid.proofs.sound_weights.Tie as tie
+use Rattle.grid.proofs.sound_weights.Reads as reads
+use Rattle.grid.proofs.sound_weights.Lts as lts
+use Rattle.smoothing.proofs.inner.sound_weights.Reads as sound-weights-reads
 
+-- src/lib.rt:43:28
 sound-weights-requires : tie.Need-sound-weights-requires
 sound-weights-requires c κs = search needs
 
+-- src/lib.rt:40:1
 returns : tie.Need-returns
 returns c = rw (c .sound-weights .ensures)
 
