@@ -1,18 +1,22 @@
 -- The lines that stand at the front of a buffer, and one line more. Assumes nothing.
 use mathlib.Core.Path.{_≡_, refl, sym, _∙_, ap, subst}
+use mathlib.Core.Bool.{true}
 use mathlib.Core.List.{List, [], _∷_, _++_, append-assoc}
 use Prim.Native.Nat.{ℕ, _≤_, _+_, _-_, _*_}
 use native.Mathlib.Omega.{arith}
 use lib.ListN.{length, take, drop, length-append}
 use lib.Seq.{take-at, drop-drop, drop-append-add}
 use lib.Ieee.{Float}
+use Rattle.numeric.specs.Arith.{𝟎}
+use Rattle.record.specs.declared.ImPeak1D.{ImPeak1D}
 use Rattle.params.specs.declared.ImDetectParams.{ImDetectParams}
+use Rattle.rowsearch.specs.Qualifying.{highest, reaches}
+use Rattle.rowsearch.specs.Found.{oldest, Searchable}
+use Rattle.rowsearch.proofs.Laws.{Next}
 use Rattle.row.specs.Row.{peakOf}
-use Rattle.row.specs.Steps.{Starts, Begun}
-use Rattle.row.specs.declared.inner.Search.{Search}
 use Rattle.table.specs.Print.{peakLine}
 use Rattle.table.specs.Facts.{line-most}
-use Rattle.peaklines.specs.RowLines.{placeOf, noFrames, linesOf, Printed}
+use Rattle.peaklines.specs.RowLines.{placeOf, noFrames, linesOf, Ready, Printed}
 
 -- a line has at most 92 bytes
 pub lines-most : (r : ℕ) (axis : List ℕ) (y : List Float) (es : List ℕ) → length (linesOf r axis y es) ≤ length es * 92
@@ -24,12 +28,12 @@ lines-most r axis y (i ∷ es) =
     rw length-append (omega arith)
 
 module _ (r : ℕ) (axis : List ℕ) (y : List Float) where
-  -- a search starts with nothing printed
-  pub begin-printed : (p : ImDetectParams) (s : Search) (d : List ℕ) → Starts s → Begun (Printed r axis y d d 0) p y s
+  pub printed-none : (d : List ℕ) → Printed r axis y d d 0 []
   unfolding linesOf
-  begin-printed p s d starts = record { answers = []; stands = starts p y; written = record { count = refl; front = refl } }
+  printed-none d = record { count = refl; front = refl }
 
-  pub one-printed : (es d out next : List ℕ) (n m i : ℕ) → Printed r axis y d out n es → m ≡ n + length (peakLine (peakOf (placeOf r) noFrames [] axis y y i 0))
+  -- one more line behind them
+  one-printed : (es d out next : List ℕ) (n m i : ℕ) → Printed r axis y d out n es → m ≡ n + length (peakLine (peakOf (placeOf r) noFrames [] axis y y i 0))
       → next ≡ take n out ++ (peakLine (peakOf (placeOf r) noFrames [] axis y y i 0) ++ drop m out) → Printed r axis y d next m (i ∷ es)
   unfolding linesOf
   one-printed es d out next n m i h e o =
@@ -41,3 +45,23 @@ module _ (r : ℕ) (axis : List ℕ) (y : List Float) where
       let g : drop m out ≡ drop m d =
       ap (drop m) (h .front) ∙ subst (λ (z : ℕ). drop z (P ++ drop n d) ≡ drop (length L) (drop n d)) k s ∙ drop-drop (length L) n d ∙ ap (λ (z : ℕ). drop z d) (sym e) in
       record { count = rw length-append (sym k); front = o ∙ rw (t, g) (sym (append-assoc P L (drop m d))) }
+
+  -- the line of the next of the kept apexes
+  pub next-printed : (found ks d out last : List ℕ) (j n m : ℕ) (peak : ImPeak1D) (k : Next y y found ks j) → Printed r axis y d out n (oldest j ks)
+      → peak ≡ peakOf (placeOf r) noFrames [] axis y y (k .apex) 0 → m ≡ n + length (peakLine peak) → last ≡ take n out ++ (peakLine peak ++ drop m out)
+      → Printed r axis y d last m (oldest (j + 1) ks)
+  next-printed found ks d out last j n m peak k h e c o =
+      let l = ap peakLine e in
+      rw (k .is) (one-printed (oldest j ks) d out last n m (k .apex) h (c ∙ ap (λ (x : List ℕ). n + length x) l) (o ∙ ap (λ (x : List ℕ). take n out ++ (x ++ drop m out)) l))
+
+-- a row that is ready and reaches the floor can be searched
+pub searchable : {p : ImDetectParams} {y : List Float} {axis : List ℕ} {room : ℕ} (turns bases found : ℕ) → Ready y axis room
+    → reaches (p .«min_prom») (highest 𝟎 y) ≡ true → length y ≤ turns → turns ≤ 2 * bases + 1 → 4 * turns ≤ found + 4 → Searchable p y y turns bases found
+searchable turns bases found r f a b c =
+    record {
+      numbers = r .numbers;
+      raw = refl;
+      short = let s = r .short in omega arith;
+      room = record { turns-long = a; bases-long = omega arith; found-long = omega arith };
+      floor = f;
+    }

@@ -11,6 +11,7 @@ use lib.ListN.{length, take, drop, set, length-append, length-map, length-drop, 
 use lib.Seq.{take-all, take-append-le, take-at, length-take-le}
 use lib.Ieee.{Float}
 use Rattle.numeric.specs.Arith.{indexF}
+use Rattle.numeric.specs.Numeric.{allInRange}
 use Rattle.numeric.proofs.Laws.{clash}
 use Rattle.table.specs.declared.Progress.{Progress}
 use Rattle.table.specs.declared.RowsSoFar.{RowsSoFar}
@@ -19,7 +20,8 @@ use Rattle.table.specs.declared.RowText.{RowText}
 use Rattle.table.specs.Text.{fields, value, allNumbers, readings, isRow, rowText, paramsOf}
 use Rattle.table.specs.Table.{verdict, isNext, counted}
 use Rattle.table.proofs.Laws.{push, row-counted, row-text, never-row}
-use Rattle.peaklines.specs.TableText.{scans, lineText, textOf, peaksText, Counted}
+use Rattle.table.proofs.Readings.{readings-range}
+use Rattle.peaklines.specs.TableText.{scans, lineText, textOf, peaksText, Sound}
 
 -- ---- scans
 pub scans-length : (n : ℕ) → length (scans n) ≡ n
@@ -69,21 +71,41 @@ and-right : (a b : Bool) → (a && b) ≡ true → b ≡ true
 and-right true b h = h
 and-right false b h = clash false h refl
 
--- an accepted row: at most 4,096 readings, and as many as are counted
-pub row-verdict : (s : Progress) (line : List ℕ) (t : RowsSoFar) → verdict s line ≡ Verdict.Row t → Counted t × (length (readings line) ≡ t .count)
+-- An accepted row: at most 4,096 readings, as many as are counted, and all of them numbers with a clear sign.
+record Accepted (line : List ℕ) (t : RowsSoFar) : Type 0 where
+  first : 1 ≤ t .rows
+  most : t .count ≤ 4096
+  count : length (readings line) ≡ t .count
+  numbers : allInRange 0x7f80_0000 (readings line) ≡ true
+
+accepted : (s : Progress) (line : List ℕ) (t : RowsSoFar) → verdict s line ≡ Verdict.Row t → Accepted line t
 unfolding verdict isRow readings
-row-verdict Progress.Start line t e = absurd (never-row (paramsOf line) t e)
-row-verdict (Progress.Rows s) line t e =
+accepted Progress.Start line t e = absurd (never-row (paramsOf line) t e)
+accepted (Progress.Rows s) line t e =
     let r = row-text line (t .count) (row-counted s t (rowText line) e) in
     let m = leb-true (length (fields line)) 4096 (and-right (allNumbers 16777215 (fields line)) (leb (length (fields line)) 4096) (r .0)) in
-    (record { first = first-row s t (rowText line) e; most = omega (arith, r .1) }, length-map (fields line) (λ f. indexF (value f)) ∙ r .1)
+    record {
+      first = first-row s t (rowText line) e;
+      most = omega (arith, r .1);
+      count = length-map (fields line) (λ f. indexF (value f)) ∙ r .1;
+      numbers = readings-range line (r .0);
+    }
+
+-- the readings of an accepted row at the front of `row`
+front-readings : (line : List ℕ) (t : RowsSoFar) (row row₀ : List Float) → Accepted line t → row ≡ readings line ++ drop (t .count) row₀ → take (t .count) row ≡ readings line
+front-readings line t row row₀ a f = ap (take (t .count)) f ∙ take-at (readings line) (drop (t .count) row₀) (t .count) (a .count)
+
+pub row-sound : (s : Progress) (line : List ℕ) (row row₀ : List Float) (v : Verdict) → v ≡ verdict s line
+    → ((t : RowsSoFar) → v ≡ Verdict.Row t → row ≡ readings line ++ drop (t .count) row₀) → Sound row v
+row-sound s line row row₀ v e f t k =
+    let a = accepted s line t (sym e ∙ k) in
+    record { first = a .first; most = a .most; numbers = rw (front-readings line t row row₀ a (f t k)) (a .numbers) }
 
 pub line-text : (s : Progress) (line : List ℕ) (row row₀ : List Float) (v : Verdict) → v ≡ verdict s line
     → ((t : RowsSoFar) → v ≡ Verdict.Row t → row ≡ readings line ++ drop (t .count) row₀) → textOf row v ≡ lineText line v
 line-text s line row row₀ (Verdict.Heading t) e f = refl
 line-text s line row row₀ (Verdict.Row t) e f =
-    let k = row-verdict s line t (sym e) in
-    ap (peaksText (t .params) (t .rows - 1)) (ap (take (t .count)) (f t refl) ∙ take-at (readings line) (drop (t .count) row₀) (t .count) (k .1))
+    ap (peaksText (t .params) (t .rows - 1)) (front-readings line t row row₀ (accepted s line t (sym e)) (f t refl))
 line-text s line row row₀ Verdict.Refused e f = refl
 
 -- a text at the front of a buffer is not longer than the buffer

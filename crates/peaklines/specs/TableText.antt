@@ -1,9 +1,13 @@
 -- The text of the table: what is printed for each line that is read. Scans count from 0.
 use mathlib.Core.Path.{_≡_, refl, sym}
+use mathlib.Core.Bool.{true}
 use mathlib.Core.List.{List, [], _∷_, _++_, append-nil}
 use Prim.Native.Nat.{ℕ, zero, suc, _-_, _≤_}
 use lib.ListN.{length, take}
 use lib.Ieee.{Float}
+use Rattle.limits.specs.Limits.{anyNumber}
+use Rattle.table.specs.Sizes.{maxFields}
+use Rattle.numeric.specs.Numeric.{allInRange}
 use Rattle.params.specs.declared.ImDetectParams.{ImDetectParams}
 use Rattle.table.specs.declared.Progress.{Progress}
 use Rattle.table.specs.declared.RowsSoFar.{RowsSoFar}
@@ -38,13 +42,14 @@ textOf row (Verdict.Heading s) = heading
 textOf row (Verdict.Row s) = peaksText (s .params) (s .rows - 1) (take (s .count) row)
 textOf row Verdict.Refused = refusal
 
--- an accepted row is one of at most 4,096 samples, and counted
-pub record Counted (s : RowsSoFar) : Type 0 where
+-- an accepted row is one of at most 4,096 samples, and counted; its readings, numbers with a clear sign, stand at the front of `row`
+pub record Counted (s : RowsSoFar) (row : List Float) : Type 0 where
   pub first : 1 ≤ s .rows
-  pub most : s .count ≤ 4096
+  pub most : s .count ≤ maxFields
+  pub numbers : allInRange anyNumber (take (s .count) row) ≡ true
 
-abbrev pub Sound : Verdict → Type 0
-Sound v = (s : RowsSoFar) → v ≡ Verdict.Row s → Counted s
+abbrev pub Sound : List Float → Verdict → Type 0
+Sound row v = (s : RowsSoFar) → v ≡ Verdict.Row s → Counted s row
 
 -- ---- the table is what its lines give, one after another, as far as the first refusal
 

@@ -4,20 +4,19 @@ use params::ImDetectParams;
 use params::RowPlace;
 use params::WindowGroup;
 use record::ImPeak1D;
-use row::inner::Listing;
-use row::inner::Search;
-use row::inner::Step;
 use table::Progress;
 use table::RowsSoFar;
 use table::Verdict;
 ghost use mathlib.Core.Path.{_≡_};
-ghost use mathlib.Core.List.{_++_};
-ghost use Prim.Native.Nat.{_≤_, _+_, _-_};
+ghost use mathlib.Core.Bool.{true};
+ghost use mathlib.Core.List.{List, _++_};
+ghost use Prim.Native.Nat.{ℕ, _≤_, _+_, _-_};
 ghost use lib.ListN.{length, take, drop};
-ghost use Rattle.apex.specs.Apex.{Ground};
-ghost use Rattle.baselines.specs.Baselines.{Baselines};
-ghost use Rattle.row.specs.Steps.{Part, FilledUp};
-ghost use Rattle.row.specs.declared.inner.Listing.the-variants.{All};
+ghost use Rattle.table.specs.Sizes.{lineRoom, maxFields, putRoom};
+ghost use Rattle.numeric.specs.Arith.{𝟎};
+ghost use Rattle.params.specs.Params.{mostPeaks};
+ghost use Rattle.rowsearch.specs.Qualifying.{highest, reaches};
+ghost use Rattle.rowsearch.specs.Found.{Searchable, Standing};
 ghost use Rattle.table.specs.Print.{peakLine};
 ghost use Rattle.table.specs.Table.{verdict};
 ghost use Rattle.peaklines.specs.RowLines.{placeOf, noFrames, rowLines, Ready, Printed};
@@ -48,77 +47,113 @@ fn no_frames() -> FrameBounds
 
 // Writes the line of a peak at a place of `out` and answers the place behind it.
 fn append_line(out: &mut [u8], at: usize, p: ImPeak1D) -> usize
-    requires { ⌜ at + 96 ≤ length (now out) ⌝ }
+    requires { ⌜ at + putRoom ≤ length (now out) ⌝ }
     ensures { λ r. ⌜ r ≡ at + length (peakLine p) ⌝ }
     ensures { λ r. ⌜ now (out .exit) ≡ take at (now (out .entry)) ++ (peakLine p ++ drop r (now (out .entry))) ⌝ }
 {
     at + table::inner::put_peak_line(&mut out[at..], p)
 }
 
-// Writes the lines of the listed peaks that a search still has to answer behind the bytes that stand at the front of `out`,
-// and answers how many bytes there are then.
-fn put_lines_from(
+// Writes the lines of the n apexes that stand in `found` to the front of `out`, the oldest first, and answers how many bytes
+// they are.
+fn put_peak_lines(
+    found: &[u32],
+    n: usize,
     y: &[f32],
-    ground: f32,
-    bases: &[f32],
     tof_row: u32,
-    p: ImDetectParams,
     axis: &[u32],
-    from: Search,
-    written: usize,
     out: &mut [u8],
-) -> Listing
-    requires { ⌜ Ready (now y) (now axis) (length (now out)) × Ground ground (now y) × Baselines (now y) (now bases) × Part (Printed «tof_row» (now axis) (now y)) p (now y) from (now out) written ⌝ }
-    ensures { λ r. ⌜ FilledUp (Printed «tof_row» (now (axis .entry)) (now (y .entry))) p (now (y .entry)) (length (now (bases .entry))) from (now (out .entry)) written (now (out .exit)) r ⌝ }
+) -> usize
+    requires { ⌜ Ready (now y) (now axis) (length (now out)) × (n ≤ mostPeaks (length (now y))) × ((ks : List ℕ) × Standing (now y) (now y) (now found) n ks) ⌝ }
+    ensures { λ r. ⌜ ((ks : List ℕ) → Standing (now (y .entry)) (now (y .entry)) (now (found .entry)) n ks → Printed «tof_row» (now (axis .entry)) (now (y .entry)) (now (out .entry)) (now (out .exit)) r ks) ⌝ }
 {
     let place = place_of(tof_row);
     let bounds = no_frames();
-    let mut n = written;
-    let mut s = from;
-    loop {
-        let step = row::inner::next_peak(y, ground, bases, p, s);
-        match step {
-            Step::Peak(a, t) => {
-                let peak = row::inner::peak_of(y, y, place, bounds, &y[..0], axis, a, 0);
-                n = append_line(out, n, peak);
-                s = t;
-            }
-            Step::Deep(t) => {
-                return Listing::Deep(n, t);
-            }
-            Step::End => {
-                return Listing::All(n);
-            }
-        }
+    let mut at = 0usize;
+    for j in 0..n {
+        let a = rowsearch::inner::measured_at(found, j);
+        let peak = row::inner::peak_of(y, y, place, bounds, &y[..0], axis, a, 0);
+        at = append_line(out, at, peak);
     }
+    at
 }
 
-// The same with the baselines of the whole row filled first.
-fn put_lines_deep(
+// Writes the lines of the listed peaks of a row that reaches the floor to the front of `out` and answers how many bytes they are.
+// The lists for turns, bases and what is found are scratch.
+fn put_lines_in(
     y: &[f32],
-    ground: f32,
     tof_row: u32,
     p: ImDetectParams,
     axis: &[u32],
-    from: Search,
-    written: usize,
+    turns: &mut [u32],
+    bases: &mut [u32],
+    found: &mut [u32],
     out: &mut [u8],
 ) -> usize
-    requires { ⌜ Ready (now y) (now axis) (length (now out)) × Ground ground (now y) × Part (Printed «tof_row» (now axis) (now y)) p (now y) from (now out) written ⌝ }
-    ensures { λ r. ⌜ FilledUp (Printed «tof_row» (now (axis .entry)) (now (y .entry))) p (now (y .entry)) (length (now (y .entry))) from (now (out .entry)) written (now (out .exit)) (All r) ⌝ }
+    requires { ⌜ Ready (now y) (now axis) (length (now out)) × Searchable p (now y) (now y) (length (now turns)) (length (now bases)) (length (now found)) ⌝ }
+    ensures count { λ r. ⌜ r ≡ length (rowLines p «tof_row» (now (axis .entry)) (now (y .entry))) ⌝ }
+    ensures front { λ r. ⌜ now (out .exit) ≡ rowLines p «tof_row» (now (axis .entry)) (now (y .entry)) ++ drop r (now (out .entry)) ⌝ }
 {
-    let mut bases = [0f32; 4096];
-    let mut links = [0u32; 4096];
-    let mut lows = [0f32; 4096];
-    baselines::inner::fill_baselines(y, &mut bases, &mut links, &mut lows);
-    let l = put_lines_from(y, ground, &bases, tof_row, p, axis, from, written, out);
-    match l {
-        Listing::All(n) => n,
-        Listing::Deep(n, _) => n,
-    }
+    let n = rowsearch::inner::find_apexes(y, y, p, turns, bases, found);
+    put_peak_lines(found, n, y, tof_row, axis, out)
 }
 
-// Writes the lines of a row's listed peaks to the front of `out` and answers how many bytes they are.
+// The same with room for a row of 64 samples.
+fn put_lines_in_64(
+    y: &[f32],
+    tof_row: u32,
+    p: ImDetectParams,
+    axis: &[u32],
+    out: &mut [u8],
+) -> usize
+    requires { ⌜ Ready (now y) (now axis) (length (now out)) × (reaches (p .«min_prom») (highest 𝟎 (now y)) ≡ true) × (length (now y) ≤ 64) ⌝ }
+    ensures count { λ r. ⌜ r ≡ length (rowLines p «tof_row» (now (axis .entry)) (now (y .entry))) ⌝ }
+    ensures front { λ r. ⌜ now (out .exit) ≡ rowLines p «tof_row» (now (axis .entry)) (now (y .entry)) ++ drop r (now (out .entry)) ⌝ }
+{
+    let mut turns = [0u32; 64];
+    let mut bases = [0u32; 32];
+    let mut found = [0u32; 256];
+    put_lines_in(y, tof_row, p, axis, &mut turns, &mut bases, &mut found, out)
+}
+
+// The same with room for a row of 1,024 samples.
+fn put_lines_in_1024(
+    y: &[f32],
+    tof_row: u32,
+    p: ImDetectParams,
+    axis: &[u32],
+    out: &mut [u8],
+) -> usize
+    requires { ⌜ Ready (now y) (now axis) (length (now out)) × (reaches (p .«min_prom») (highest 𝟎 (now y)) ≡ true) × (length (now y) ≤ 1024) ⌝ }
+    ensures count { λ r. ⌜ r ≡ length (rowLines p «tof_row» (now (axis .entry)) (now (y .entry))) ⌝ }
+    ensures front { λ r. ⌜ now (out .exit) ≡ rowLines p «tof_row» (now (axis .entry)) (now (y .entry)) ++ drop r (now (out .entry)) ⌝ }
+{
+    let mut turns = [0u32; 1024];
+    let mut bases = [0u32; 512];
+    let mut found = [0u32; 4096];
+    put_lines_in(y, tof_row, p, axis, &mut turns, &mut bases, &mut found, out)
+}
+
+// The same with room for a row of 4,096 samples.
+fn put_lines_in_4096(
+    y: &[f32],
+    tof_row: u32,
+    p: ImDetectParams,
+    axis: &[u32],
+    out: &mut [u8],
+) -> usize
+    requires { ⌜ Ready (now y) (now axis) (length (now out)) × (reaches (p .«min_prom») (highest 𝟎 (now y)) ≡ true) × (length (now y) ≤ maxFields) ⌝ }
+    ensures count { λ r. ⌜ r ≡ length (rowLines p «tof_row» (now (axis .entry)) (now (y .entry))) ⌝ }
+    ensures front { λ r. ⌜ now (out .exit) ≡ rowLines p «tof_row» (now (axis .entry)) (now (y .entry)) ++ drop r (now (out .entry)) ⌝ }
+{
+    let mut turns = [0u32; 4096];
+    let mut bases = [0u32; 2048];
+    let mut found = [0u32; 16384];
+    put_lines_in(y, tof_row, p, axis, &mut turns, &mut bases, &mut found, out)
+}
+
+// Writes the lines of a row's listed peaks to the front of `out` and answers how many bytes they are: a row that does not reach the
+// floor has none.
 pub fn put_row_lines(
     y: &[f32],
     tof_row: u32,
@@ -130,21 +165,21 @@ pub fn put_row_lines(
     ensures count { λ r. ⌜ r ≡ length (rowLines p «tof_row» (now (axis .entry)) (now (y .entry))) ⌝ }
     ensures front { λ r. ⌜ now (out .exit) ≡ rowLines p «tof_row» (now (axis .entry)) (now (y .entry)) ++ drop r (now (out .entry)) ⌝ }
 {
-    if !row::inner::reaches_floor(y, p.min_prom) {
+    if !rowsearch::inner::reaches_floor(y, p.min_prom) {
         return 0;
     }
-    let ground = apex::inner::ground_of(y);
-    let s = row::inner::search_start(y.len());
-    let l = put_lines_from(y, ground, &y[..0], tof_row, p, axis, s, 0, out);
-    match l {
-        Listing::All(n) => n,
-        Listing::Deep(n, t) => put_lines_deep(y, ground, tof_row, p, axis, t, n, out),
+    if y.len() <= 64 {
+        return put_lines_in_64(y, tof_row, p, axis, out);
     }
+    if y.len() <= 1024 {
+        return put_lines_in_1024(y, tof_row, p, axis, out);
+    }
+    put_lines_in_4096(y, tof_row, p, axis, out)
 }
 
 // The scans of a row, which count from 0.
 pub fn count_up(axis: &mut [u32])
-    requires { ⌜ length (now axis) ≤ 4096 ⌝ }
+    requires { ⌜ length (now axis) ≤ maxFields ⌝ }
     ensures { λ _. ⌜ now (axis .exit) ≡ scans (length (now (axis .entry))) ⌝ }
 {
     for i in 0..axis.len() {
@@ -154,7 +189,7 @@ pub fn count_up(axis: &mut [u32])
 
 // Writes the lines of the peaks of an accepted row, whose readings stand at the front of `row`.
 fn put_row(s: RowsSoFar, row: &[f32], axis: &[u32], out: &mut [u8]) -> usize
-    requires { ⌜ Counted s × (4096 ≤ length (now row)) × (now axis ≡ scans 4096) × (188420 ≤ length (now out)) ⌝ }
+    requires { ⌜ Counted s (now row) × (maxFields ≤ length (now row)) × (now axis ≡ scans maxFields) × (lineRoom ≤ length (now out)) ⌝ }
     ensures count { λ r. ⌜ r ≡ length (peaksText (s .params) (s .rows - 1) (take (s .count) (now (row .entry)))) ⌝ }
     ensures front { λ r. ⌜ now (out .exit) ≡ peaksText (s .params) (s .rows - 1) (take (s .count) (now (row .entry))) ++ drop r (now (out .entry)) ⌝ }
 {
@@ -164,7 +199,7 @@ fn put_row(s: RowsSoFar, row: &[f32], axis: &[u32], out: &mut [u8]) -> usize
 
 // Writes what is printed for a line with a verdict to the front of `out` and answers how many bytes that are.
 fn put_text(v: Verdict, row: &[f32], axis: &[u32], out: &mut [u8]) -> usize
-    requires { ⌜ Sound v × (4096 ≤ length (now row)) × (now axis ≡ scans 4096) × (188420 ≤ length (now out)) ⌝ }
+    requires { ⌜ Sound (now row) v × (maxFields ≤ length (now row)) × (now axis ≡ scans maxFields) × (lineRoom ≤ length (now out)) ⌝ }
     ensures count { λ r. ⌜ r ≡ length (textOf (now (row .entry)) v) ⌝ }
     ensures front { λ r. ⌜ now (out .exit) ≡ textOf (now (row .entry)) v ++ drop r (now (out .entry)) ⌝ }
 {
@@ -184,7 +219,7 @@ pub struct LineDone {
 // Writes what is printed for the next line, given without its CR LF, to the front of `out`. Of `row` the first 4,096 places may
 // have been written.
 pub fn put_line(s: Progress, line: &[u8], row: &mut [f32], axis: &[u32], out: &mut [u8]) -> LineDone
-    requires { ⌜ (4096 ≤ length (now row)) × (now axis ≡ scans 4096) × (188420 ≤ length (now out)) ⌝ }
+    requires { ⌜ (maxFields ≤ length (now row)) × (now axis ≡ scans maxFields) × (lineRoom ≤ length (now out)) ⌝ }
     ensures verdict { λ r. ⌜ r .verdict ≡ verdict s (now (line .entry)) ⌝ }
     ensures count { λ r. ⌜ r .used ≡ length (lineText (now (line .entry)) (r .verdict)) ⌝ }
     ensures room { λ r. ⌜ r .used ≤ length (now (out .entry)) ⌝ }

@@ -5,10 +5,11 @@ use mathlib.Core.List.{List, [], _++_}
 use Prim.Native.Nat.{ℕ, _≤_, _<_, _+_}
 use lib.ListN.{length, take, drop}
 use Rattle.table.specs.declared.Progress.{Progress}
+use Rattle.table.specs.Sizes.{lineRoom}
 use Rattle.table.specs.Print.{putAt}
 use Rattle.table.specs.Lines.{noLf}
 use Rattle.peaklines.specs.TableText.{tableText}
-use Rattle.tabletext.specs.Bytes.{textFrom, lineRoom}
+use Rattle.tabletext.specs.Bytes.{textFrom}
 use Rattle.peaktable.specs.declared.More.{More}
 use Rattle.peaktable.specs.declared.Job.{Job}
 use Rattle.peaktable.specs.declared.Read.{Read}

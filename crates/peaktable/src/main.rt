@@ -8,10 +8,11 @@ ghost use mathlib.Core.Bool.{true, false};
 ghost use mathlib.Core.List.{List, _++_};
 ghost use Prim.Native.Nat.{ℕ, _≤_, _<_, _+_, _-_};
 ghost use lib.ListN.{length, take, drop};
+ghost use Rattle.table.specs.Sizes.{maxFields, maxLine, lineRoom};
 ghost use Rattle.table.specs.Print.{refusal};
 ghost use Rattle.table.specs.Lines.{noLf};
 ghost use Rattle.peaklines.specs.TableText.{scans};
-ghost use Rattle.tabletext.specs.Bytes.{textFrom, lineRoom};
+ghost use Rattle.tabletext.specs.Bytes.{textFrom};
 ghost use Rattle.peaktable.specs.Held.{Added, Lines, AllRead, bytesOf, Held, overWith, Stands, Worked, Turned};
 
 // ---- writing
@@ -45,7 +46,7 @@ struct Read {
 
 // Lines from a place on, as many as there is room for.
 fn some_lines(r: Read, bytes: &[u8], row: &mut [f32], axis: &[u32], out: &mut [u8]) -> Read
-    requires { ⌜ (r .from ≤ length (now bytes)) × (r .waiting ≤ length (now out)) × (4096 ≤ length (now row)) × (now axis ≡ scans 4096) ⌝ }
+    requires { ⌜ (r .from ≤ length (now bytes)) × (r .waiting ≤ length (now out)) × (maxFields ≤ length (now row)) × (now axis ≡ scans maxFields) ⌝ }
     ensures { λ t. ⌜ Lines (now (bytes .entry)) (now (out .entry)) (now (out .exit)) r t ⌝ }
 {
     let progress = r.progress;
@@ -64,7 +65,7 @@ fn some_lines(r: Read, bytes: &[u8], row: &mut [f32], axis: &[u32], out: &mut [u
 
 // All lines that have an end. Text is written where the room for more of it is short.
 fn whole_lines(job: Job, bytes: &[u8], row: &mut [f32], axis: &[u32], out: &mut [u8]) -> Read
-    requires { ⌜ (4096 ≤ length (now row)) × (now axis ≡ scans 4096) × (job .waiting + lineRoom ≤ length (now out)) ⌝ }
+    requires { ⌜ (maxFields ≤ length (now row)) × (now axis ≡ scans maxFields) × (job .waiting + lineRoom ≤ length (now out)) ⌝ }
     ensures { λ r. ⌜ (r .from ≤ length (now (bytes .entry))) × (r .waiting ≤ length (now (out .entry))) ⌝ }
     ensures { λ r. ⌜ (r .ok ≡ true → r .«goes_on» ≡ true → AllRead (now (bytes .entry)) (now (out .entry)) (r .from) (r .waiting)) ⌝ }
     ensures { λ r. ⌜ ((input : List ℕ) → Stands input true (job .progress) (now (out .entry)) (job .waiting) (now (bytes .entry)) → r .ok ≡ true → Stands input (r .«goes_on») (r .progress) (now (out .exit)) (r .waiting) (drop (r .from) (now (bytes .entry)))) ⌝ }
@@ -82,7 +83,7 @@ fn whole_lines(job: Job, bytes: &[u8], row: &mut [f32], axis: &[u32], out: &mut 
         if !r.goes_on {
             return r;
         }
-        if 188420 <= out.len() - r.waiting {
+        if table::LINE_ROOM <= out.len() - r.waiting {
             return r;
         }
         r.ok = written(out, r.waiting);
@@ -95,7 +96,7 @@ fn whole_lines(job: Job, bytes: &[u8], row: &mut [f32], axis: &[u32], out: &mut 
 
 // The input's last line, which lacks its end, and the end of the table.
 fn last_line(job: Job, bytes: &[u8], row: &mut [f32], axis: &[u32], out: &mut [u8]) -> Job
-    requires { ⌜ (noLf (now bytes) ≡ true) × (4096 ≤ length (now row)) × (now axis ≡ scans 4096) × (job .waiting + lineRoom ≤ length (now out)) ⌝ }
+    requires { ⌜ (noLf (now bytes) ≡ true) × (maxFields ≤ length (now row)) × (now axis ≡ scans maxFields) × (job .waiting + lineRoom ≤ length (now out)) ⌝ }
     ensures { λ r. ⌜ Added (now (out .entry)) (now (out .exit)) (textFrom (job .progress) (now (bytes .entry))) (job .waiting) (r .waiting) ⌝ }
 {
     let progress = job.progress;
@@ -109,7 +110,7 @@ fn last_line(job: Job, bytes: &[u8], row: &mut [f32], axis: &[u32], out: &mut [u
 
 // A line that has no end in all the room for one.
 fn overlong(job: Job, bytes: &[u8], out: &mut [u8]) -> Job
-    requires { ⌜ (noLf (now bytes) ≡ true) × (36864 < length (now bytes)) × (job .waiting + lineRoom ≤ length (now out)) ⌝ }
+    requires { ⌜ (noLf (now bytes) ≡ true) × (maxLine < length (now bytes)) × (job .waiting + lineRoom ≤ length (now out)) ⌝ }
     ensures { λ r. ⌜ ((rest : List ℕ) → Added (now (out .entry)) (now (out .exit)) (textFrom (job .progress) (now (bytes .entry) ++ rest)) (job .waiting) (r .waiting)) ⌝ }
 {
     let progress = job.progress;
@@ -200,7 +201,7 @@ fn after_bytes(
     axis: &[u32],
     out: &mut [u8],
 ) -> Turn
-    requires { ⌜ (have ≤ length (now buf)) × (36864 < length (now buf)) × (4096 ≤ length (now row)) × (now axis ≡ scans 4096) × (job .waiting + lineRoom ≤ length (now out)) ⌝ }
+    requires { ⌜ (have ≤ length (now buf)) × (maxLine < length (now buf)) × (maxFields ≤ length (now row)) × (now axis ≡ scans maxFields) × (job .waiting + lineRoom ≤ length (now out)) ⌝ }
     ensures { λ r. ⌜ r .job .waiting ≤ length (now (out .entry)) ⌝ }
     ensures { λ r. ⌜ (r .over ≡ false → Held (now (buf .exit)) (now (out .entry)) (r .have) (r .job .waiting)) ⌝ }
     ensures { λ r. ⌜ ((input : List ℕ) → Stands input true (job .progress) (now (out .entry)) (job .waiting) (take have (now (buf .entry))) → Worked input (now (buf .exit)) (now (out .exit)) r) ⌝ }
@@ -237,7 +238,7 @@ fn next_turn(
     axis: &[u32],
     out: &mut [u8],
 ) -> Turn
-    requires { ⌜ Held (now buf) (now out) have (job .waiting) × (36864 < length (now buf)) × (4096 ≤ length (now row)) × (now axis ≡ scans 4096) ⌝ }
+    requires { ⌜ Held (now buf) (now out) have (job .waiting) × (maxLine < length (now buf)) × (maxFields ≤ length (now row)) × (now axis ≡ scans maxFields) ⌝ }
     ensures { λ r. ⌜ r .job .waiting ≤ length (now (out .entry)) ⌝ }
     ensures { λ r. ⌜ (r .over ≡ false → Held (now (buf .exit)) (now (out .entry)) (r .have) (r .job .waiting)) ⌝ }
     ensures { λ r. ⌜ ((input : List ℕ) → Stands input true (job .progress) (now (out .entry)) (job .waiting) (take have (now (buf .entry))) → Turned input (now (buf .exit)) (now (out .exit)) r) ⌝ }
@@ -254,7 +255,7 @@ fn next_turn(
 }
 
 fn read_all(buf: &mut [u8], row: &mut [f32], axis: &[u32], out: &mut [u8])
-    requires { ⌜ (36864 < length (now buf)) × (4096 ≤ length (now row)) × (now axis ≡ scans 4096) × (lineRoom ≤ length (now out)) ⌝ }
+    requires { ⌜ (maxLine < length (now buf)) × (maxFields ≤ length (now row)) × (now axis ≡ scans maxFields) × (lineRoom ≤ length (now out)) ⌝ }
 {
     let mut job = Job {
         progress: Progress::Start,
@@ -277,8 +278,8 @@ fn read_all(buf: &mut [u8], row: &mut [f32], axis: &[u32], out: &mut [u8])
 
 fn main() {
     let mut buf = io::large_buffer();
-    let mut row = [0f32; 4096];
-    let mut axis = [0u32; 4096];
+    let mut row = [0f32; table::MAX_FIELDS];
+    let mut axis = [0u32; table::MAX_FIELDS];
     let mut out = [0u8; 262144];
     peaklines::inner::count_up(&mut axis);
     read_all(&mut buf, &mut row, &axis, &mut out);

@@ -11,8 +11,10 @@ use lib.Dec.{leb, ltb, eqb}
 use lib.ListN.{length, getD, take, drop, set, length-drop, length-map, drop-of-length-le}
 use lib.Seq.{drop-cons, take-suc, set-at, length-take-le, take-all, drop-drop, drop-append-add, drop-set-lt}
 use lib.Ieee.{Float}
+use Rattle.limits.specs.Limits.{maxCount, lastRow}
 use Rattle.numeric.specs.Arith.{indexF}
 use Rattle.numeric.proofs.Laws.{clash}
+use Rattle.table.specs.Sizes.{maxNumber, maxFields}
 use Rattle.table.specs.Text.{comma, onto, fields, allDigits, valueFrom, value, isNumber, allNumbers, isRow, readings, rowText, commaAt, numberText, paramsText, paramsFrom, paramsOf, lf, lfFrom}
 use Rattle.table.specs.declared.RowText.{RowText}
 use Rattle.table.specs.declared.ParamsText.{ParamsText}
@@ -67,13 +69,13 @@ fields-other b bs e = rw (ne-eqb b comma e)
 -- ---- a row from the middle of a field on: v is the number read so far of the open field, d the count of its digits, and n
 -- the count of the fields before it
 abbrev pub mayEnd : ℕ → ℕ → ℕ → Bool
-mayEnd v d n = leb 1 d && leb v 16777215 && ltb n 4096
+mayEnd v d n = leb 1 d && leb v maxNumber && ltb n maxFields
 
 abbrev pub mayGoOn : ℕ → ℕ → Bool
 mayGoOn d b = leb 48 b && leb b 57 && ltb d 8
 
-pub end-room : (v d n : ℕ) → mayEnd v d n ≡ true → n < 4096
-end-room v d n m = ltb-true n 4096 (three (leb 1 d) (leb v 16777215) (ltb n 4096) m .2)
+pub end-room : (v d n : ℕ) → mayEnd v d n ≡ true → n < maxFields
+end-room v d n m = ltb-true n maxFields (three (leb 1 d) (leb v maxNumber) (ltb n maxFields) m .2)
 
 pub go-on-room : (d b : ℕ) → mayGoOn d b ≡ true → (48 ≤ b) × (b ≤ 57) × (d < 8)
 go-on-room d b m = let t = three (leb 48 b) (leb b 57) (ltb d 8) m in (leb-true 48 b (t .0), leb-true b 57 (t .1), ltb-true d 8 (t .2))
@@ -81,13 +83,13 @@ go-on-room d b m = let t = three (leb 48 b) (leb b 57) (ltb d 8) m in (leb-true 
 unfoldable pub restIsRow : ℕ → ℕ → ℕ → List (List ℕ) → Bool
 restIsRow v d n [] = false
 restIsRow v d n (f ∷ fs) =
-    leb 1 (d + length f) && leb (d + length f) 8 && allDigits f && leb (valueFrom v f) 16777215 && allNumbers 16777215 fs && leb (n + suc (length fs)) 4096
+    leb 1 (d + length f) && leb (d + length f) 8 && allDigits f && leb (valueFrom v f) maxNumber && allNumbers maxNumber fs && leb (n + suc (length fs)) maxFields
 
 pub row-start : (line : List ℕ) → isRow line ≡ restIsRow 0 0 0 (fields line)
 unfolding isRow restIsRow allNumbers isNumber
 row-start line = go (fields line) (some-field line)
   where
-    go : (fs : List (List ℕ)) → 0 < length fs → (allNumbers 16777215 fs && leb (length fs) 4096) ≡ restIsRow 0 0 0 fs
+    go : (fs : List (List ℕ)) → 0 < length fs → (allNumbers maxNumber fs && leb (length fs) maxFields) ≡ restIsRow 0 0 0 fs
     go [] h = absurd (omega arith)
     go (f ∷ fs) h = rw (zero-add (length f), zero-add (suc (length fs)))
 
@@ -95,7 +97,7 @@ pub row-comma : (v d n : ℕ) (fs : List (List ℕ)) → 0 < length fs → d ≤
 unfolding restIsRow allNumbers isNumber allDigits valueFrom
 row-comma v d n [] h e m = absurd (omega arith)
 row-comma v d n (f ∷ fs) h e m =
-    let t = three (leb 1 d) (leb v 16777215) (ltb n 4096) m in
+    let t = three (leb 1 d) (leb v maxNumber) (ltb n maxFields) m in
     let k : n + suc (suc (length fs)) ≡ n + 1 + suc (length fs) = omega arith in
     rw (add-zero d, t .0, t .1, le-leb d 8 e, zero-add (length f), k)
 
@@ -109,7 +111,7 @@ row-digit v d n b (f ∷ fs) h m =
 
 pub row-last : (v d n : ℕ) → d ≤ 8 → restIsRow v d n ([] ∷ []) ≡ mayEnd v d n
 unfolding restIsRow allNumbers allDigits valueFrom
-row-last v d n e = rw (add-zero d, le-leb d 8 e) (go (leb 1 d) (leb v 16777215) (leb (n + 1) 4096) (ltb n 4096) (rw (add-one n)))
+row-last v d n e = rw (add-zero d, le-leb d 8 e) (go (leb 1 d) (leb v maxNumber) (leb (n + 1) maxFields) (ltb n maxFields) (rw (add-one n)))
   where
     go : (a b c c′ : Bool) → c ≡ c′ → (a && true && true && b && true && c) ≡ (a && b && c′)
     go true true c c′ e = e
@@ -120,10 +122,10 @@ row-last v d n e = rw (add-zero d, le-leb d 8 e) (go (leb 1 d) (leb v 16777215) 
 pub bad-end : (v d n : ℕ) (fs : List (List ℕ)) → mayEnd v d n ≡ false → restIsRow v d n ([] ∷ fs) ≡ false
 unfolding restIsRow allDigits valueFrom
 bad-end v d n fs m =
-    rw (add-zero d) (go (leb 1 d) (leb d 8) (leb v 16777215) (ltb n 4096) (allNumbers 16777215 fs) (leb (n + suc (length fs)) 4096) m over)
+    rw (add-zero d) (go (leb 1 d) (leb d 8) (leb v maxNumber) (ltb n maxFields) (allNumbers maxNumber fs) (leb (n + suc (length fs)) maxFields) m over)
   where
-    over : ltb n 4096 ≡ false → leb (n + suc (length fs)) 4096 ≡ false
-    over h = let k : 4096 ≤ n = ltb-false n 4096 h in lt-leb (n + suc (length fs)) 4096 (omega arith)
+    over : ltb n maxFields ≡ false → leb (n + suc (length fs)) maxFields ≡ false
+    over h = let k : maxFields ≤ n = ltb-false n maxFields h in lt-leb (n + suc (length fs)) maxFields (omega arith)
 
     go : (a b c x y z : Bool) → (a && c && x) ≡ false → (x ≡ false → z ≡ false) → (a && b && true && c && y && z) ≡ false
     go false b c x y z e f = refl
@@ -147,8 +149,8 @@ bad-byte v d n b fs m = go fs
     pick true true true true r x y z w e f = clash true refl (f e)
 
     go : (fs : List (List ℕ)) → restIsRow v d n (onto b fs) ≡ false
-    go [] = pick (leb 1 (d + 1)) (leb (d + 1) 8) (leb 48 b) (leb b 57) (ltb d 8) true (leb (v * 10 + (b - 48)) 16777215) true (leb (n + 1) 4096) m (over 0)
-    go (f ∷ fs) = pick (leb 1 (d + suc (length f))) (leb (d + suc (length f)) 8) (leb 48 b) (leb b 57) (ltb d 8) (allDigits f) (leb (valueFrom (v * 10 + (b - 48)) f) 16777215) (allNumbers 16777215 fs) (leb (n + suc (length fs)) 4096) m (over (length f))
+    go [] = pick (leb 1 (d + 1)) (leb (d + 1) 8) (leb 48 b) (leb b 57) (ltb d 8) true (leb (v * 10 + (b - 48)) maxNumber) true (leb (n + 1) maxFields) m (over 0)
+    go (f ∷ fs) = pick (leb 1 (d + suc (length f))) (leb (d + suc (length f)) 8) (leb 48 b) (leb b 57) (ltb d 8) (allDigits f) (leb (valueFrom (v * 10 + (b - 48)) f) maxNumber) (allNumbers maxNumber fs) (leb (n + suc (length fs)) maxFields) m (over (length f))
 
 -- ---- the readings from the middle of a field on
 unfoldable pub firstFrom : ℕ → List (List ℕ) → List Float
@@ -200,7 +202,7 @@ Read line row₀ row v d n rest =
 pub read-start : (line : List ℕ) (row : List Float) → Read line row row 0 0 0 line
 read-start line row = (row-start line, refl, readings-start line)
 
-module _ (line : List ℕ) (row₀ row : List Float) (v d n i : ℕ) (s : Read line row₀ row v d n (drop i line)) (room : 4096 ≤ length row₀) where
+module _ (line : List ℕ) (row₀ row : List Float) (v d n i : ℕ) (s : Read line row₀ row v d n (drop i line)) (room : maxFields ≤ length row₀) where
   at-byte : i < length line → drop i line ≡ getD line i 0 ∷ drop (i + 1) line
   at-byte h = rw (add-one, drop-cons line i 0)
 
@@ -223,7 +225,7 @@ module _ (line : List ℕ) (row₀ row : List Float) (v d n i : ℕ) (s : Read l
       let R = readings line in
       let f : fields (drop i line) ≡ [] ∷ fields r = ap fields (at-byte h) ∙ fields-comma b r o in
       let e : drop n R ≡ indexF v ∷ firstFrom 0 (fields r) = s .2 ∙ ap (firstFrom v) f ∙ readings-comma v (fields r) (some-field r) in
-      let lt : n < 4096 = end-room v d n m in
+      let lt : n < maxFields = end-room v d n m in
       let k : n < length R = more R n (indexF v) (firstFrom 0 (fields r)) e in (
         s .0 ∙ ap (restIsRow v d n) f ∙ row-comma v d n (fields r) (some-field r) g m,
         rw (s .1, next-take R n (indexF v) (firstFrom 0 (fields r)) e) (push (take n R) row₀ n (indexF v) (length-take-le n R (omega arith)) (omega arith)),
@@ -255,7 +257,7 @@ module _ (line : List ℕ) (row₀ row : List Float) (v d n i : ℕ) (s : Read l
   read-last h g m =
       let R = readings line in
       let e : drop n R ≡ indexF v ∷ [] = s .2 ∙ ap (firstFrom v) (none h) in
-      let lt : n < 4096 = end-room v d n m in
+      let lt : n < maxFields = end-room v d n m in
       let k : n < length R = more R n (indexF v) [] e in
       let lR : length R ≡ length (fields line) = length-map (fields line) (λ f. indexF (value f)) in
       let ld : length R - (n + 1) ≡ 0 = sym (length-drop (n + 1) R) ∙ ap length (next-drop R n (indexF v) [] e) in
@@ -273,26 +275,26 @@ module _ (line : List ℕ) (row₀ row : List Float) (v d n i : ℕ) (s : Read l
   some-reading (f ∷ fs) = omega arith
 
   -- beyond the first 4,096 places nothing has changed
-  pub rest-stays : n ≤ 4096 → drop 4096 row ≡ drop 4096 row₀
+  pub rest-stays : n ≤ maxFields → drop maxFields row ≡ drop maxFields row₀
   rest-stays h =
       let p = take n (readings line) in
       let m : 0 < length (readings line) - n = subst (λ (z : ℕ). 0 < z) (sym (ap length (s .2)) ∙ length-drop n (readings line)) (some-reading (fields (drop i line))) in
       let l : length p ≡ n = length-take-le n (readings line) (omega arith) in
-      let e : 4096 ≡ length p + (4096 - n) = omega arith in
-      let e′ : n + (4096 - n) ≡ 4096 = omega arith in
-      rw (s .1) (subst (λ (z : ℕ). drop z (p ++ drop n row₀) ≡ drop 4096 row₀) (sym e) (drop-append-add p (drop n row₀) (4096 - n) ∙ drop-drop (4096 - n) n row₀ ∙ ap (λ (z : ℕ). drop z row₀) e′))
+      let e : maxFields ≡ length p + (maxFields - n) = omega arith in
+      let e′ : n + (maxFields - n) ≡ maxFields = omega arith in
+      rw (s .1) (subst (λ (z : ℕ). drop z (p ++ drop n row₀) ≡ drop maxFields row₀) (sym e) (drop-append-add p (drop n row₀) (maxFields - n) ∙ drop-drop (maxFields - n) n row₀ ∙ ap (λ (z : ℕ). drop z row₀) e′))
 
-  pub rest-stays-set : n < 4096 → (x : Float) → drop 4096 (set row n x) ≡ drop 4096 row₀
-  rest-stays-set h x = drop-set-lt 4096 row n x h ∙ rest-stays (omega arith)
+  pub rest-stays-set : n < maxFields → (x : Float) → drop maxFields (set row n x) ≡ drop maxFields row₀
+  rest-stays-set h x = drop-set-lt maxFields row n x h ∙ rest-stays (omega arith)
 
 -- the answers to a bad line and to a row
-pub bad-answer : (line : List ℕ) (row₀ row : List Float) → isRow line ≡ false → drop 4096 row ≡ drop 4096 row₀
-    → (RowText.Bad ≡ rowText line) × ((isRow line ≡ true → row ≡ readings line ++ drop (length (fields line)) row₀) × (drop 4096 row ≡ drop 4096 row₀))
+pub bad-answer : (line : List ℕ) (row₀ row : List Float) → isRow line ≡ false → drop maxFields row ≡ drop maxFields row₀
+    → (RowText.Bad ≡ rowText line) × ((isRow line ≡ true → row ≡ readings line ++ drop (length (fields line)) row₀) × (drop maxFields row ≡ drop maxFields row₀))
 bad-answer line row₀ row b r = (rw b, ((λ h. clash (isRow line) h b), r))
 
 pub row-answer : (line : List ℕ) (row₀ row : List Float) (n : ℕ)
-    → (isRow line ≡ true) × (length (fields line) ≡ n + 1) × (row ≡ readings line ++ drop (length (fields line)) row₀) → drop 4096 row ≡ drop 4096 row₀
-    → (RowText.Row (n + 1) ≡ rowText line) × ((isRow line ≡ true → row ≡ readings line ++ drop (length (fields line)) row₀) × (drop 4096 row ≡ drop 4096 row₀))
+    → (isRow line ≡ true) × (length (fields line) ≡ n + 1) × (row ≡ readings line ++ drop (length (fields line)) row₀) → drop maxFields row ≡ drop maxFields row₀
+    → (RowText.Row (n + 1) ≡ rowText line) × ((isRow line ≡ true → row ≡ readings line ++ drop (length (fields line)) row₀) × (drop maxFields row ≡ drop maxFields row₀))
 row-answer line row₀ row n t r = (rw (t .0, t .1), ((λ h. t .2), r))
 
 -- ---- the first comma and the first LF of a list
@@ -402,7 +404,7 @@ module _ (l r : List ℕ) (i : ℕ) (e : i ≡ commaAt l) where
     heads k g = rw (head h p, g, part r (j + 1), add-one, f) (ap (λ (z : List (List ℕ)). take i l ∷ z) (split-comma r (omega arith)))
 
     module _ (k : j < length r) (g : q ≡ take (length r - (j + 1)) (drop (j + 1) r)) (m : ℕ) (o : m ≡ commaAt q) where
-      pub params-three : length q ≤ m → paramsText (numberText 16777215 (take i l)) (numberText 65535 (take j r)) (numberText 65535 q) ≡ paramsOf l
+      pub params-three : length q ≤ m → paramsText (numberText maxNumber (take i l)) (numberText maxCount (take j r)) (numberText maxCount q) ≡ paramsOf l
       unfolding paramsOf paramsFrom
       params-three n = rw (heads k g, split-none q (omega arith))
 
@@ -427,9 +429,9 @@ cr-some (b ∷ []) h = refl
 cr-some (b ∷ c ∷ l) h = rw (sub-one (suc (suc (length l)))) (ap (λ (k : ℕ). eqb (getD (c ∷ l) k 0) cr) (sym (sub-one (suc (length l)))) ∙ cr-some (c ∷ l) (omega arith))
 
 -- ---- verdicts
-pub next-room : (s : RowsSoFar) (n : ℕ) → isNext s n ≡ true → s .rows < 4194304
+pub next-room : (s : RowsSoFar) (n : ℕ) → isNext s n ≡ true → s .rows ≤ lastRow
 unfolding isNext
-next-room s n e = ltb-true (s .rows) 4194304 (both (eqb (s .count) 0 || eqb n (s .count)) (ltb (s .rows) 4194304) e .1)
+next-room s n e = leb-true (s .rows) lastRow (both (eqb (s .count) 0 || eqb n (s .count)) (leb (s .rows) lastRow) e .1)
 
 pub row-counted : (s t : RowsSoFar) (x : RowText) → counted s x ≡ Verdict.Row t → x ≡ RowText.Row (t .count)
 row-counted s t RowText.Bad e = let z : _≡_ {A = ℕ} 0 1 = cc in absurd (omega arith)

@@ -8,6 +8,8 @@ use native.Mathlib.Omega.{arith}
 use borrow.Author.Tests.{ltb-true, ltb-false, lt-ltb, le-ltb, le-leb}
 use lib.Dec.{leb, ltb}
 use lib.ListN.{length, getD, length-append, List·getD-append}
+use Rattle.params.specs.Params.{mostPeaks}
+use Rattle.table.specs.Sizes.{maxFields, maxLine, lineBytes, putRoom, lineRoom}
 use Rattle.table.specs.Text.{allDigits, valueFrom, value}
 use Rattle.table.specs.Print.{digit, digitsOf, decimal, hex8, followed, placesOf, floatsOf, peakLine}
 use Rattle.record.specs.declared.ImPeak1D.{ImPeak1D}
@@ -36,7 +38,7 @@ decimal-length n = (digits-least 9 n, digits-most 10 n)
 pub hex8-length : (w : ℕ) → length (hex8 w) ≡ 8
 hex8-length w = refl
 
--- a peak's line has at most 92 bytes
+-- a peak's line has at most `lineBytes` bytes
 pub number-most : (n : ℕ) → length (followed (decimal n)) ≤ 11
 number-most n = let h : length (decimal n) ≤ 10 = digits-most 10 n in simp length-append (omega arith)
 
@@ -54,9 +56,16 @@ pub floats-length : (p : ImPeak1D) → length (floatsOf p) ≡ 37
 unfolding floatsOf
 floats-length p = refl
 
-pub line-most : (p : ImPeak1D) → length (peakLine p) ≤ 92
+pub line-most : (p : ImPeak1D) → length (peakLine p) ≤ lineBytes
 line-most p =
     let a : length (placesOf p) ≤ 55 = places-most p in let b : length (floatsOf p) ≡ 37 = floats-length p in simp length-append (omega arith)
+
+-- the sizes that follow from others
+pub longest-row : maxLine ≡ maxFields * (8 + 1)
+longest-row = refl
+
+pub room-enough : lineRoom ≡ mostPeaks maxFields * lineBytes + putRoom
+room-enough = refl
 
 -- ---- ten digits are enough
 tenth : (k n : ℕ) → n < 10 ^ suc k → n / 10 < 10 ^ k

@@ -1,4 +1,5 @@
 -- The definitions that the contracts of `table` cite, and what holds of them.
+pub mod Sizes
 pub mod Text
 pub mod Print
 pub mod Facts

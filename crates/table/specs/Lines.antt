@@ -11,7 +11,9 @@ use borrow.Author.Tests.{eqb-true, leb-true, le-leb, lt-leb}
 use lib.Dec.{leb, eqb}
 use lib.ListN.{length, take, drop}
 use lib.Seq.{take-at, take-take, drop-append-add}
+use Rattle.limits.specs.Limits.{maxCount}
 use Rattle.numeric.proofs.Laws.{clash}
+use Rattle.table.specs.Sizes.{maxNumber, maxFields, maxLine}
 use Rattle.table.specs.declared.LineEnd.{LineEnd}
 use Rattle.table.specs.declared.NumberText.{NumberText}
 use Rattle.table.specs.declared.ParamsText.{ParamsText}
@@ -173,35 +175,35 @@ bad-numbers limit (f ∷ fs) h = go (allDigits f) refl h (bad-numbers limit fs)
     go false e h r = rw (number-digits limit f e)
 
 -- fields that are not all numbers are no parameters
-wider : (f : List ℕ) → isNumber 65535 f ≡ true → isNumber 16777215 f ≡ true
+wider : (f : List ℕ) → isNumber maxCount f ≡ true → isNumber maxNumber f ≡ true
 unfolding isNumber
-wider f h = go (leb 1 (length f) && leb (length f) 8 && allDigits f) (leb (value f) 65535) refl h
+wider f h = go (leb 1 (length f) && leb (length f) 8 && allDigits f) (leb (value f) maxCount) refl h
   where
-    go : (a b : Bool) → leb (value f) 65535 ≡ b → (a && b) ≡ true → (a && leb (value f) 16777215) ≡ true
-    go true true e h = let k : value f ≤ 65535 = leb-true (value f) 65535 e in le-leb (value f) 16777215 (omega arith)
+    go : (a b : Bool) → leb (value f) maxCount ≡ b → (a && b) ≡ true → (a && leb (value f) maxNumber) ≡ true
+    go true true e h = let k : value f ≤ maxCount = leb-true (value f) maxCount e in le-leb (value f) maxNumber (omega arith)
     go true false e h = clash false h refl
     go false b e h = h
 
-no-params : (fs : List (List ℕ)) → allNumbers 16777215 fs ≡ false → paramsFrom fs ≡ ParamsText.Bad
+no-params : (fs : List (List ℕ)) → allNumbers maxNumber fs ≡ false → paramsFrom fs ≡ ParamsText.Bad
 unfolding paramsFrom allNumbers
 no-params [] h = refl
 no-params (a ∷ []) h = refl
 no-params (a ∷ b ∷ []) h = refl
-no-params (a ∷ b ∷ c ∷ []) h = go (isNumber 16777215 a) refl (isNumber 65535 b) refl (isNumber 65535 c) refl
+no-params (a ∷ b ∷ c ∷ []) h = go (isNumber maxNumber a) refl (isNumber maxCount b) refl (isNumber maxCount c) refl
   where
-    go : (x : Bool) → isNumber 16777215 a ≡ x → (y : Bool) → isNumber 65535 b ≡ y → (z : Bool) → isNumber 65535 c ≡ z
+    go : (x : Bool) → isNumber maxNumber a ≡ x → (y : Bool) → isNumber maxCount b ≡ y → (z : Bool) → isNumber maxCount c ≡ z
         → paramsText (cond x (NumberText.Number (value a)) NumberText.Bad) (cond y (NumberText.Number (value b)) NumberText.Bad) (cond z (NumberText.Number (value c)) NumberText.Bad) ≡ ParamsText.Bad
     go false e y f z g = refl
     go true e false f z g = refl
     go true e true f false g = refl
-    go true e true f true g = clash (isNumber 16777215 a && (isNumber 16777215 b && (isNumber 16777215 c && true))) (rw (e, wider b f, wider c g)) h
+    go true e true f true g = clash (isNumber maxNumber a && (isNumber maxNumber b && (isNumber maxNumber c && true))) (rw (e, wider b f, wider c g)) h
 no-params (a ∷ b ∷ c ∷ d ∷ fs) h = refl
 
 -- a line with a byte that is no digit and no comma is refused, as the first line and as any other
 pub refused : (s : Progress) (x : List ℕ) (b : ℕ) (y : List ℕ) → (leb 48 b && leb b 57) ≡ false → eqb b comma ≡ false → verdict s (x ++ (b ∷ y)) ≡ Verdict.Refused
 unfolding verdict paramsOf isRow
-refused Progress.Start x b y h e = rw (no-params (fields (x ++ (b ∷ y))) (bad-numbers 16777215 (fields (x ++ (b ∷ y))) (bad-fields x b y h e)))
-refused (Progress.Rows s) x b y h e = rw (bad-numbers 16777215 (fields (x ++ (b ∷ y))) (bad-fields x b y h e))
+refused Progress.Start x b y h e = rw (no-params (fields (x ++ (b ∷ y))) (bad-numbers maxNumber (fields (x ++ (b ∷ y))) (bad-fields x b y h e)))
+refused (Progress.Rows s) x b y h e = rw (bad-numbers maxNumber (fields (x ++ (b ∷ y))) (bad-fields x b y h e))
 
 pub lf-refused : (s : Progress) (x y : List ℕ) → verdict s (x ++ (lf ∷ y)) ≡ Verdict.Refused
 lf-refused s x y = refused s x lf y refl refl
@@ -235,40 +237,40 @@ some-field line = go (fields line) (total-line line)
     go [] h = absurd (omega arith)
     go (f ∷ fs) h = omega arith
 
-total-most : (fs : List (List ℕ)) → allNumbers 16777215 fs ≡ true → total fs ≤ 9 * length fs
+total-most : (fs : List (List ℕ)) → allNumbers maxNumber fs ≡ true → total fs ≤ 9 * length fs
 unfolding total allNumbers isNumber
 total-most [] h = omega arith
-total-most (f ∷ fs) h = go (leb 1 (length f)) (leb (length f) 8) refl (allDigits f) (leb (value f) 16777215) h (total-most fs)
+total-most (f ∷ fs) h = go (leb 1 (length f)) (leb (length f) 8) refl (allDigits f) (leb (value f) maxNumber) h (total-most fs)
   where
-    go : (a b : Bool) → leb (length f) 8 ≡ b → (c d : Bool) → (a && b && c && d && allNumbers 16777215 fs) ≡ true
-        → (allNumbers 16777215 fs ≡ true → total fs ≤ 9 * length fs) → length f + 1 + total fs ≤ 9 * suc (length fs)
+    go : (a b : Bool) → leb (length f) 8 ≡ b → (c d : Bool) → (a && b && c && d && allNumbers maxNumber fs) ≡ true
+        → (allNumbers maxNumber fs ≡ true → total fs ≤ 9 * length fs) → length f + 1 + total fs ≤ 9 * suc (length fs)
     go false b e c d h r = clash false h refl
     go true false e c d h r = clash false h refl
     go true true e false d h r = clash false h refl
     go true true e true false h r = clash false h refl
     go true true e true true h r = let k : length f ≤ 8 = leb-true (length f) 8 e in let m : total fs ≤ 9 * length fs = r h in omega arith
 
-long-params : (fs : List (List ℕ)) → 36864 < total fs → paramsFrom fs ≡ ParamsText.Bad
+long-params : (fs : List (List ℕ)) → maxLine < total fs → paramsFrom fs ≡ ParamsText.Bad
 unfolding paramsFrom
 long-params [] h = refl
 long-params (a ∷ []) h = refl
 long-params (a ∷ b ∷ []) h = refl
-long-params (a ∷ b ∷ c ∷ []) h = go (allNumbers 16777215 (a ∷ b ∷ c ∷ [])) refl
+long-params (a ∷ b ∷ c ∷ []) h = go (allNumbers maxNumber (a ∷ b ∷ c ∷ [])) refl
   where
-    go : (e : Bool) → allNumbers 16777215 (a ∷ b ∷ c ∷ []) ≡ e → paramsFrom (a ∷ b ∷ c ∷ []) ≡ ParamsText.Bad
+    go : (e : Bool) → allNumbers maxNumber (a ∷ b ∷ c ∷ []) ≡ e → paramsFrom (a ∷ b ∷ c ∷ []) ≡ ParamsText.Bad
     go true e = let m : total (a ∷ b ∷ c ∷ []) ≤ 9 * 3 = total-most (a ∷ b ∷ c ∷ []) e in absurd (omega arith)
     go false e = no-params (a ∷ b ∷ c ∷ []) e
 long-params (a ∷ b ∷ c ∷ d ∷ fs) h = refl
 
-long-row : (fs : List (List ℕ)) → 36864 < total fs → (allNumbers 16777215 fs && leb (length fs) 4096) ≡ false
-long-row fs h = go (allNumbers 16777215 fs) refl
+long-row : (fs : List (List ℕ)) → maxLine < total fs → (allNumbers maxNumber fs && leb (length fs) maxFields) ≡ false
+long-row fs h = go (allNumbers maxNumber fs) refl
   where
-    go : (e : Bool) → allNumbers 16777215 fs ≡ e → (e && leb (length fs) 4096) ≡ false
-    go true e = let m : total fs ≤ 9 * length fs = total-most fs e in lt-leb (length fs) 4096 (omega arith)
+    go : (e : Bool) → allNumbers maxNumber fs ≡ e → (e && leb (length fs) maxFields) ≡ false
+    go true e = let m : total fs ≤ 9 * length fs = total-most fs e in lt-leb (length fs) maxFields (omega arith)
     go false e = refl
 
--- a line of more than 36,863 bytes is refused
-pub long-refused : (s : Progress) (line : List ℕ) → 36863 < length line → verdict s line ≡ Verdict.Refused
+-- a line that, without its CR LF, has as many bytes as the longest row with its CR is refused, and so is any longer one
+pub long-refused : (s : Progress) (line : List ℕ) → maxLine ≤ length line → verdict s line ≡ Verdict.Refused
 unfolding verdict paramsOf isRow
 long-refused Progress.Start line h = let t = total-line line in rw (long-params (fields line) (omega (arith, t)))
 long-refused (Progress.Rows s) line h = let t = total-line line in rw (long-row (fields line) (omega (arith, t)))

@@ -2,8 +2,9 @@
 use mathlib.Core.Bool.{Bool, false, cond, _&&_, _||_}
 use mathlib.Core.List.{List, [], _∷_, _++_}
 use Prim.Native.Nat.{ℕ, _+_, _-_}
-use lib.Dec.{ltb, eqb}
+use lib.Dec.{leb, eqb}
 use lib.Ieee.{Float}
+use Rattle.limits.specs.Limits.{lastRow}
 use Rattle.params.specs.declared.ImDetectParams.{ImDetectParams}
 use Rattle.table.specs.declared.RowText.{RowText}
 use Rattle.table.specs.declared.ParamsText.{ParamsText}
@@ -40,7 +41,7 @@ opened ParamsText.Bad = Verdict.Refused
 
 -- as many fields as the first row has, which is itself of any count; and a place among 4,194,304 rows
 unfoldable pub isNext : RowsSoFar → ℕ → Bool
-isNext s n = (eqb (s .count) 0 || eqb n (s .count)) && ltb (s .rows) 4194304
+isNext s n = (eqb (s .count) 0 || eqb n (s .count)) && leb (s .rows) lastRow
 
 -- each further line: a row
 abbrev pub counted : RowsSoFar → RowText → Verdict

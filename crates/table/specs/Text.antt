@@ -5,7 +5,9 @@ use Prim.Native.Nat.{ℕ, suc, _+_, _-_, _*_}
 use lib.Dec.{leb, eqb}
 use lib.ListN.{length, drop}
 use lib.Ieee.{Float}
+use Rattle.limits.specs.Limits.{maxCount}
 use Rattle.numeric.specs.Arith.{indexF}
+use Rattle.table.specs.Sizes.{maxNumber, maxFields}
 use Rattle.table.specs.declared.NumberText.{NumberText}
 use Rattle.table.specs.declared.RowText.{RowText}
 use Rattle.table.specs.declared.ParamsText.{ParamsText}
@@ -61,7 +63,7 @@ allNumbers limit (f ∷ fs) = isNumber limit f && allNumbers limit fs
 
 -- a line that is a row: at most 4,096 whole numbers to 16,777,215
 unfoldable pub isRow : List ℕ → Bool
-isRow line = allNumbers 16777215 (fields line) && leb (length (fields line)) 4096
+isRow line = allNumbers maxNumber (fields line) && leb (length (fields line)) maxFields
 
 -- its readings
 unfoldable pub readings : List ℕ → List Float
@@ -86,7 +88,7 @@ unfoldable pub paramsFrom : List (List ℕ) → ParamsText
 paramsFrom [] = ParamsText.Bad
 paramsFrom (a ∷ []) = ParamsText.Bad
 paramsFrom (a ∷ b ∷ []) = ParamsText.Bad
-paramsFrom (a ∷ b ∷ c ∷ []) = paramsText (numberText 16777215 a) (numberText 65535 b) (numberText 65535 c)
+paramsFrom (a ∷ b ∷ c ∷ []) = paramsText (numberText maxNumber a) (numberText maxCount b) (numberText maxCount c)
 paramsFrom (a ∷ b ∷ c ∷ d ∷ fs) = ParamsText.Bad
 
 unfoldable pub paramsOf : List ℕ → ParamsText

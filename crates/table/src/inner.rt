@@ -10,6 +10,7 @@ ghost use mathlib.Core.List.{_++_};
 ghost use Prim.Native.Nat.{_≤_, _<_, _+_};
 ghost use lib.Dec.{leb, ltb};
 ghost use lib.ListN.{length, drop};
+ghost use Rattle.table.specs.Sizes.{maxNumber, maxFields, putRoom};
 ghost use Rattle.table.specs.Text.{fields, isRow, readings, rowText};
 ghost use Rattle.table.specs.declared.RowsSoFar.{RowsSoFar};
 ghost use Rattle.table.specs.declared.Verdict.{Verdict};
@@ -19,9 +20,9 @@ ghost use Rattle.table.specs.Print.{decimal, hexDigit, hex8, heading, re
 
 // Whether the field that has been read may end: a digit at least, a number to 16,777,215, and a place in the row.
 fn may_end(value: u32, digits: u32, count: usize) -> bool
-    ensures { λ r. ⌜ r ≡ (leb 1 digits && leb value 16777215 && ltb count 4096) ⌝ }
+    ensures { λ r. ⌜ r ≡ (leb 1 digits && leb value maxNumber && ltb count maxFields) ⌝ }
 {
-    (1 <= digits) & (value <= 16777215) & (count < 4096)
+    (1 <= digits) & (value <= super::MAX_NUMBER) & (count < super::MAX_FIELDS)
 }
 
 // Whether the field that has been read may go on with a byte: a digit, and the eighth at most.
@@ -34,10 +35,10 @@ fn may_go_on(digits: u32, b: u8) -> bool
 // The readings of a line, given without its CR LF, to the front of `row`. Where the line is no row, some of the first 4,096
 // places of `row` may have been written.
 pub fn parse_row(line: &[u8], row: &mut [f32]) -> RowText
-    requires { ⌜ 4096 ≤ length (now row) ⌝ }
+    requires { ⌜ maxFields ≤ length (now row) ⌝ }
     ensures text { λ r. ⌜ r ≡ rowText (now (line .entry)) ⌝ }
     ensures front { λ _. ⌜ (isRow (now (line .entry)) ≡ true → now (row .exit) ≡ readings (now (line .entry)) ++ drop (length (fields (now (line .entry)))) (now (row .entry))) ⌝ }
-    ensures rest { λ _. ⌜ drop 4096 (now (row .exit)) ≡ drop 4096 (now (row .entry)) ⌝ }
+    ensures rest { λ _. ⌜ drop maxFields (now (row .exit)) ≡ drop maxFields (now (row .entry)) ⌝ }
 {
     let mut value = 0u32;
     let mut digits = 0u32;
@@ -74,10 +75,10 @@ pub fn parse_row(line: &[u8], row: &mut [f32]) -> RowText
 // The verdict on the next line, given without its CR LF. The readings of an accepted row stand at the front of `row`; after
 // any other verdict some of its first 4,096 places may have been written.
 pub fn accept(s: Progress, line: &[u8], row: &mut [f32]) -> Verdict
-    requires { ⌜ 4096 ≤ length (now row) ⌝ }
+    requires { ⌜ maxFields ≤ length (now row) ⌝ }
     ensures verdict { λ r. ⌜ r ≡ verdict s (now (line .entry)) ⌝ }
     ensures front { λ r. ⌜ ((t : RowsSoFar) → r ≡ Verdict.Row t → now (row .exit) ≡ readings (now (line .entry)) ++ drop (t .count) (now (row .entry))) ⌝ }
-    ensures rest { λ _. ⌜ drop 4096 (now (row .exit)) ≡ drop 4096 (now (row .entry)) ⌝ }
+    ensures rest { λ _. ⌜ drop maxFields (now (row .exit)) ≡ drop maxFields (now (row .entry)) ⌝ }
 {
     match s {
         Progress::Start => super::opened(super::parse_params(line)),
@@ -103,7 +104,7 @@ fn put_text(out: &mut [u8], text: &[u8]) -> usize
 
 // Writes the heading to the front of `out`.
 pub fn put_heading(out: &mut [u8]) -> usize
-    requires { ⌜ 96 ≤ length (now out) ⌝ }
+    requires { ⌜ putRoom ≤ length (now out) ⌝ }
     ensures { λ r. ⌜ r ≡ length heading ⌝ }
     ensures { λ r. ⌜ now (out .exit) ≡ heading ++ drop r (now (out .entry)) ⌝ }
 {
@@ -115,7 +116,7 @@ pub fn put_heading(out: &mut [u8]) -> usize
 
 // Writes the answer to a bad line to the front of `out`.
 pub fn put_refusal(out: &mut [u8]) -> usize
-    requires { ⌜ 96 ≤ length (now out) ⌝ }
+    requires { ⌜ putRoom ≤ length (now out) ⌝ }
     ensures { λ r. ⌜ r ≡ length refusal ⌝ }
     ensures { λ r. ⌜ now (out .exit) ≡ refusal ++ drop r (now (out .entry)) ⌝ }
 {
@@ -209,7 +210,7 @@ fn put_last(out: &mut [u8], at: usize, x: f32) -> usize
 
 // Writes the first five fields of a peak's line to the front of `out`.
 fn put_places(out: &mut [u8], p: ImPeak1D) -> usize
-    requires { ⌜ 96 ≤ length (now out) ⌝ }
+    requires { ⌜ putRoom ≤ length (now out) ⌝ }
     ensures { λ r. ⌜ r ≡ length (placesOf p) ⌝ }
     ensures { λ _. ⌜ now (out .exit) ≡ putAt (now (out .entry)) 0 (placesOf p) ⌝ }
 {
@@ -232,9 +233,9 @@ fn put_floats(out: &mut [u8], at: usize, p: ImPeak1D) -> usize
     put_last(out, c, p.subscan)
 }
 
-// Writes the line of a peak to the front of `out`: at most 92 bytes.
+// Writes the line of a peak to the front of `out`: at most `LINE_BYTES` bytes.
 pub fn put_peak_line(out: &mut [u8], p: ImPeak1D) -> usize
-    requires { ⌜ 96 ≤ length (now out) ⌝ }
+    requires { ⌜ putRoom ≤ length (now out) ⌝ }
     ensures { λ r. ⌜ r ≡ length (peakLine p) ⌝ }
     ensures { λ r. ⌜ now (out .exit) ≡ peakLine p ++ drop r (now (out .entry)) ⌝ }
 {

@@ -9,6 +9,29 @@ ghost use lib.Dec.{leb};
 ghost use Rattle.table.specs.Text.{commaAt, numberText, paramsText, paramsOf, nextLine};
 ghost use Rattle.table.specs.Table.{endsInCr, opened, isNext, counted};
 
+// ---- numbers that belong to the table alone
+
+// The highest number of a row, and the highest floor.
+pub const MAX_NUMBER: u32 = 16777215;
+
+// The most fields that a row may have.
+pub const MAX_FIELDS: usize = 4096;
+
+// The bytes of the longest row, with its CR: as many fields of 8 digits, each with one byte behind it.
+pub const MAX_LINE: usize = 36864;
+
+// The most bytes that the line of a peak has: five numbers of 10 digits and four words of 8, each with a comma, the last with
+// CR LF.
+pub const LINE_BYTES: usize = 92;
+
+// The room that is asked for where the heading, the refusal or the line of a peak is written.
+pub const PUT_ROOM: usize = 96;
+
+// The room that the text for any line that is read fits in: the lines of as many peaks as a row can have, and `PUT_ROOM`.
+pub const LINE_ROOM: usize = 188420;
+
+// ---- what lines are
+
 // What a line is as a row: the count of its numbers, or bad.
 pub enum RowText {
     Row(usize),
@@ -144,9 +167,9 @@ pub fn parse_params(line: &[u8]) -> ParamsText
                 return ParamsText::Bad;
             }
             return params_of(
-                number(&line[..i], 16777215),
-                number(&rest[..j], 65535),
-                number(last, 65535),
+                number(&line[..i], MAX_NUMBER),
+                number(&rest[..j], limits::MAX_COUNT),
+                number(last, limits::MAX_COUNT),
             );
         }
     }
@@ -196,7 +219,7 @@ fn opened(p: ParamsText) -> Verdict
 fn is_next(s: RowsSoFar, n: usize) -> bool
     ensures { λ r. ⌜ r ≡ isNext s n ⌝ }
 {
-    ((s.count == 0) | (n == s.count)) & (s.rows < 4194304)
+    ((s.count == 0) | (n == s.count)) & (s.rows <= limits::LAST_ROW)
 }
 
 // The verdict on a further line.

@@ -15,6 +15,7 @@ use Rattle.table.specs.declared.RowsSoFar.{RowsSoFar}
 use Rattle.table.specs.declared.Verdict.{Verdict}
 use Rattle.table.specs.declared.LineEnd.{LineEnd}
 use Rattle.table.specs.Print.{refusal}
+use Rattle.table.specs.Sizes.{maxLine}
 use Rattle.table.specs.Text.{onto, lf, lfFrom, nextLine}
 use Rattle.table.specs.Table.{cr, lines, endsInCr, verdict, printedFrom}
 use Rattle.table.specs.Lines.{noLf, last-line, lf-at, first-line, first-line-bad, long-refused}
@@ -119,7 +120,7 @@ no-end (b ∷ c ∷ x) rest h p = go (eqb b cr) (eqb b lf) (eqb c lf) h (no-end 
     go true false false h r = let t = r h (omega arith) in (b ∷ t .0, t .1, ap (onto b) (t .2), omega (arith, t .3))
     go false false false h r = let t = r h (omega arith) in (b ∷ t .0, t .1, ap (onto b) (t .2), omega (arith, t .3))
 
-pub text-overlong : (s : Progress) (x rest : List ℕ) → noLf x ≡ true → 36864 < length x → textFrom s (x ++ rest) ≡ refusal
+pub text-overlong : (s : Progress) (x rest : List ℕ) → noLf x ≡ true → maxLine < length x → textFrom s (x ++ rest) ≡ refusal
 text-overlong s x rest h p =
     let t = no-end x rest h (omega arith) in
     ap (printedFrom peaksText s) (t .2) ∙ text-refused s (t .0) (t .1) (long-refused s (t .0) (omega (arith, t .3)))

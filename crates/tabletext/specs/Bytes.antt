@@ -6,6 +6,7 @@ use Prim.Native.Nat.{ℕ, _≤_, _+_}
 use lib.ListN.{length, take, drop}
 use Rattle.table.specs.declared.Progress.{Progress}
 use Rattle.table.specs.declared.Verdict.{Verdict}
+use Rattle.table.specs.Sizes.{lineRoom}
 use Rattle.table.specs.Table.{lines, printedFrom}
 use Rattle.table.specs.Lines.{noLf}
 use Rattle.peaklines.specs.TableText.{peaksText, tableText}
@@ -18,10 +19,6 @@ textFrom s bytes = printedFrom peaksText s (lines bytes)
 -- from the start on, the table
 pub whole-text : (bytes : List ℕ) → textFrom Progress.Start bytes ≡ tableText bytes
 whole-text bytes = refl
-
--- the room that the text of any line fits in
-abbrev pub lineRoom : ℕ
-lineRoom = 188420
 
 -- what is printed for the bytes that are left: nothing behind a refusal
 abbrev pub textLeft : Fed → List ℕ → List ℕ

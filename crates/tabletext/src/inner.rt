@@ -1,4 +1,4 @@
-// For buffers that the caller has sized: the room for a line's text is 188,420 bytes, that for a row 4,096 readings.
+// For buffers that the caller has sized: the room for a line's text is `LINE_ROOM` bytes, that for a row `MAX_FIELDS` readings.
 use table::LineEnd;
 use table::Progress;
 use table::Verdict;
@@ -9,10 +9,11 @@ ghost use Prim.Native.Nat.{ℕ, _≤_, _<_, _+_};
 ghost use lib.ListN.{length, drop};
 ghost use Rattle.table.specs.declared.Progress.{Progress};
 ghost use Rattle.table.specs.declared.LineEnd.{LineEnd};
+ghost use Rattle.table.specs.Sizes.{maxFields, maxLine, lineRoom};
 ghost use Rattle.table.specs.Text.{lf, nextLine};
 ghost use Rattle.table.specs.Lines.{noLf};
 ghost use Rattle.peaklines.specs.TableText.{scans};
-ghost use Rattle.tabletext.specs.Bytes.{textFrom, lineRoom, Put, Through, afterLine};
+ghost use Rattle.tabletext.specs.Bytes.{textFrom, Put, Through, afterLine};
 
 // What some bytes give: what has been accepted then, whether the table goes on, the place behind the lines that were worked
 // through, and how many bytes are printed for them.
@@ -50,7 +51,7 @@ fn after_line(s: Progress, verdict: Verdict, from: usize, used: usize) -> Fed
 
 // A line that an LF ends, given without the LF; the byte before it must be CR.
 fn put_ended(s: Progress, text: &[u8], row: &mut [f32], axis: &[u32], out: &mut [u8]) -> Fed
-    requires { ⌜ (noLf (now text) ≡ true) × (4096 ≤ length (now row)) × (now axis ≡ scans 4096) × (lineRoom ≤ length (now out)) ⌝ }
+    requires { ⌜ (noLf (now text) ≡ true) × (maxFields ≤ length (now row)) × (now axis ≡ scans maxFields) × (lineRoom ≤ length (now out)) ⌝ }
     ensures { λ r. ⌜ Put s (now (text .entry) ++ (lf ∷ [])) (now (out .entry)) (now (out .exit)) r ⌝ }
     ensures { λ r. ⌜ r .from ≡ length (now (text .entry)) + 1 ⌝ }
 {
@@ -67,7 +68,7 @@ fn put_ended(s: Progress, text: &[u8], row: &mut [f32], axis: &[u32], out: &mut 
 
 // One line more, which ends at the LF at place i.
 fn put_next(f: Fed, bytes: &[u8], i: usize, row: &mut [f32], axis: &[u32], out: &mut [u8]) -> Fed
-    requires { ⌜ (f .«goes_on» ≡ true) × (nextLine (now bytes) (f .from) ≡ LineEnd.At i) × (4096 ≤ length (now row)) × (now axis ≡ scans 4096) × (f .used + lineRoom ≤ length (now out)) ⌝ }
+    requires { ⌜ (f .«goes_on» ≡ true) × (nextLine (now bytes) (f .from) ≡ LineEnd.At i) × (maxFields ≤ length (now row)) × (now axis ≡ scans maxFields) × (f .used + lineRoom ≤ length (now out)) ⌝ }
     ensures { λ r. ⌜ ((s : Progress) (out₀ : List ℕ) → Put s (now (bytes .entry)) out₀ (now (out .entry)) f → Put s (now (bytes .entry)) out₀ (now (out .exit)) r) ⌝ }
     ensures { λ r. ⌜ f .from < r .from ⌝ }
 {
@@ -87,7 +88,7 @@ fn put_next(f: Fed, bytes: &[u8], i: usize, row: &mut [f32], axis: &[u32], out: 
 // Works through lines that have an end, as long as the room in `out` is enough for any line's text, and writes what is printed
 // for them to the front of `out`.
 pub fn put_lines(s: Progress, bytes: &[u8], row: &mut [f32], axis: &[u32], out: &mut [u8]) -> Fed
-    requires { ⌜ (4096 ≤ length (now row)) × (now axis ≡ scans 4096) ⌝ }
+    requires { ⌜ (maxFields ≤ length (now row)) × (now axis ≡ scans maxFields) ⌝ }
     ensures put { λ r. ⌜ Put s (now (bytes .entry)) (now (out .entry)) (now (out .exit)) r ⌝ }
     ensures through { λ r. ⌜ Through (now (bytes .entry)) (now (out .entry)) r ⌝ }
 {
@@ -97,7 +98,7 @@ pub fn put_lines(s: Progress, bytes: &[u8], row: &mut [f32], axis: &[u32], out: 
         from: 0,
         used: 0,
     };
-    while 188420 <= out.len() - f.used {
+    while table::LINE_ROOM <= out.len() - f.used {
         let end = table::next_line(bytes, f.from);
         match end {
             LineEnd::At(i) => {
@@ -116,7 +117,7 @@ pub fn put_lines(s: Progress, bytes: &[u8], row: &mut [f32], axis: &[u32], out: 
 
 // The last line, which has no LF, and the end of the table: for no bytes, what is printed at the end.
 pub fn put_last(s: Progress, bytes: &[u8], row: &mut [f32], axis: &[u32], out: &mut [u8]) -> usize
-    requires { ⌜ (noLf (now bytes) ≡ true) × (4096 ≤ length (now row)) × (now axis ≡ scans 4096) × (lineRoom ≤ length (now out)) ⌝ }
+    requires { ⌜ (noLf (now bytes) ≡ true) × (maxFields ≤ length (now row)) × (now axis ≡ scans maxFields) × (lineRoom ≤ length (now out)) ⌝ }
     ensures count { λ r. ⌜ r ≡ length (textFrom s (now (bytes .entry))) ⌝ }
     ensures room { λ r. ⌜ r ≤ length (now (out .entry)) ⌝ }
     ensures front { λ r. ⌜ now (out .exit) ≡ textFrom s (now (bytes .entry)) ++ drop r (now (out .entry)) ⌝ }
@@ -133,7 +134,7 @@ pub fn put_last(s: Progress, bytes: &[u8], row: &mut [f32], axis: &[u32], out: &
 
 // Bytes without LF that are more than any accepted line has: the refusal, whatever follows.
 pub fn put_overlong(s: Progress, bytes: &[u8], out: &mut [u8]) -> usize
-    requires { ⌜ (noLf (now bytes) ≡ true) × (36864 < length (now bytes)) × (lineRoom ≤ length (now out)) ⌝ }
+    requires { ⌜ (noLf (now bytes) ≡ true) × (maxLine < length (now bytes)) × (lineRoom ≤ length (now out)) ⌝ }
     ensures count { λ r. ⌜ ((rest : List ℕ) → r ≡ length (textFrom s (now (bytes .entry) ++ rest))) ⌝ }
     ensures room { λ r. ⌜ r ≤ length (now (out .entry)) ⌝ }
     ensures front { λ r. ⌜ ((rest : List ℕ) → now (out .exit) ≡ textFrom s (now (bytes .entry) ++ rest) ++ drop r (now (out .entry))) ⌝ }

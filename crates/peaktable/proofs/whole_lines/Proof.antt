@@ -7,7 +7,7 @@ use borrow.Author.Needs.{needs}
 use borrow.Author.Tests.{not-true, not-false}
 use lib.ListN.{length, drop}
 use Rattle.numeric.proofs.Laws.{clash}
-use Rattle.tabletext.specs.Bytes.{lineRoom}
+use Rattle.table.specs.Sizes.{lineRoom}
 use Rattle.peaktable.specs.Held.{Stands}
 use Rattle.peaktable.proofs.Laws.{stands-lines, stands-written}
 use Rattle.peaktable.proofs.whole_lines.Statement.{statement}

@@ -1,11 +1,11 @@
-use mathlib.Core.Path.{sym, _∙_, ap}
+use mathlib.Core.Path.{_∙_, ap}
 use mathlib.Core.List.{List, _++_}
 use Prim.Native.Nat.{ℕ, _-_, _+_}
 use native.Mathlib.Omega.{arith}
 use borrow.Author.Needs.{needs}
 use lib.ListN.{length, drop}
 use Rattle.peaklines.specs.TableText.{textOf}
-use Rattle.peaklines.proofs.TableLaws.{row-verdict, line-text, text-fits}
+use Rattle.peaklines.proofs.TableLaws.{row-sound, line-text, text-fits}
 use Rattle.peaklines.proofs.inner.put_line.Statement.{statement}
 use Rattle.peaklines.proofs.inner.put_line.Tie as tie
 
@@ -16,7 +16,7 @@ put-text-requires : tie.Need-put-text-requires
 put-text-requires c κs =
     let f = c .before .before .before .before in
     let s = f .before .before .before .before .before .before in (
-      (λ t e. row-verdict (s .args .s) (s .args .line .now) t (sym (f .accept .ensures .0) ∙ e) .0),
+      row-sound (s .args .s) (s .args .line .now) (f .accept .last .1 .1 .0) (s .args .row .now) (f .accept .result) (f .accept .ensures .0) (f .accept .ensures .1 .0),
       omega (arith, f .accept .kept .1 .1 .0, s .pre .0),
       s .pre .1,
       s .pre .2,

@@ -25,7 +25,7 @@ put-row-lines-requires c κs =
     let n = s .args .s .count in
     let r = length-take-le n (s .args .row .now) (omega (arith, s .pre .0 .most, s .pre .1)) in
     let a = length-take-le n (s .args .axis .now) (omega (arith, s .pre .0 .most, axis-length (s .args .axis .now) (s .pre .2))) in
-    (a ∙ sym r, omega (arith, r, s .pre .0 .most), rw r (omega (arith, s .pre .0 .most, s .pre .3)))
+    record { numbers = s .pre .0 .numbers; scans = a ∙ sym r; short = omega (arith, r, s .pre .0 .most); bytes = rw r (omega (arith, s .pre .0 .most, s .pre .3)) }
 
 same-length : tie.Need-same-length
 same-length c = search needs

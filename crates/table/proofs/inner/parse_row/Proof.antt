@@ -1,5 +1,6 @@
 use mathlib.Core.Path.{_≡_, refl, sym, _∙_}
 use mathlib.Core.Logic.{⊎-elim}
+use Rattle.table.specs.Sizes.{maxFields}
 use Rattle.table.proofs.Laws.{Read, read-start, read-digit, read-comma, read-last, bad-comma, bad-other, bad-last, rest-stays, rest-stays-set, end-room, go-on-room, digits-bound, digits-more, bad-answer, row-answer}
 use lib.ListN.{length-set}
 use Prim.Native.Nat.{_^_, _≤_, _<_, _-_}
@@ -11,7 +12,7 @@ use Rattle.table.proofs.inner.parse_row.Tie as tie
 
 abbrev Inv-loop : tie.InvT-loop
 Inv-loop line row₀ value₀ digits₀ count₀ i₀ row value digits count i =
-    (i ≤ length line) × (digits ≤ 8) × (value < 10 ^ digits) × (count ≤ 4096) × (length row ≡ length row₀) × Read line row₀ row value digits count (drop i line)
+    (i ≤ length line) × (digits ≤ 8) × (value < 10 ^ digits) × (count ≤ maxFields) × (length row ≡ length row₀) × Read line row₀ row value digits count (drop i line)
 
 abbrev μ-loop : tie.MeasureT-loop
 μ-loop line row₀ value₀ digits₀ count₀ i₀ row value digits count i = length line - i
@@ -33,7 +34,7 @@ mul-row c = search needs
 
 slice-write-row : tie.Need-slice-write-row Inv-loop μ-loop
 slice-write-row c = let l = c .before .before .before .before .before .before in
-    let r : l .loop .count < 4096 = end-room (l .loop .value) (l .loop .digits) (l .loop .count) (sym (c .before .before .may-end .ensures) ∙ c .before .if2 .taken) in omega arith
+    let r : l .loop .count < maxFields = end-room (l .loop .value) (l .loop .digits) (l .loop .count) (sym (c .before .before .may-end .ensures) ∙ c .before .if2 .taken) in omega arith
 
 add-count : tie.Need-add-count Inv-loop μ-loop
 add-count c = search needs
@@ -91,7 +92,7 @@ loop-again c = let l = c .before .before .before in
     ⊎-elim
     (λ w.
     let m = sym (w .1 .ensures) ∙ w .2 .taken in
-    let r : o .count < 4096 = end-room (o .value) (o .digits) (o .count) m in
+    let r : o .count < maxFields = end-room (o .value) (o .digits) (o .count) m in
     rw (w .4, w .5, w .6, w .7, w .3 .ensures) (
       omega arith,
       omega arith,
@@ -125,7 +126,7 @@ mul-row-2 c = search needs
 
 slice-write-row-2 : tie.Need-slice-write-row-2 Inv-loop μ-loop
 slice-write-row-2 c = let l = c .before .before .before .before in
-    let r : l .loop .count < 4096 = end-room (l .loop .value) (l .loop .digits) (l .loop .count) (sym (c .before .before .may-end2 .ensures) ∙ c .before .if4 .taken) in omega arith
+    let r : l .loop .count < maxFields = end-room (l .loop .value) (l .loop .digits) (l .loop .count) (sym (c .before .before .may-end2 .ensures) ∙ c .before .if4 .taken) in omega arith
 
 add-t19 : tie.Need-add-t19 Inv-loop μ-loop
 add-t19 c = search needs

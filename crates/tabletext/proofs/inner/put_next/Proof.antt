@@ -6,7 +6,8 @@ use borrow.Author.Needs.{needs}
 use lib.ListN.{length, drop, take, length-drop}
 use Rattle.table.proofs.Laws.{part}
 use Rattle.table.specs.Text.{lf}
-use Rattle.tabletext.specs.Bytes.{lineRoom, Put}
+use Rattle.table.specs.Sizes.{lineRoom}
+use Rattle.tabletext.specs.Bytes.{Put}
 use Rattle.tabletext.specs.declared.inner.Fed.{Fed}
 use Rattle.tabletext.proofs.Laws.{line-length, part-back, put-more, line-place, line-text}
 use Rattle.tabletext.proofs.inner.put_next.Statement.{statement}
