@@ -3,6 +3,7 @@ use mathlib.Core.Bool.{Bool, not, cond, _&&_, _||_}
 use Prim.Native.Nat.{ℕ, _+_, _-_, _^_, min, max}
 use lib.Dec.{leb, eqb}
 use lib.Ieee.{Float, lt, le}
+use Rattle.limits.specs.Limits.{maxCount}
 use Rattle.numeric.specs.Arith.{_⊕_, _⊖_, _⊘_, 𝟎, 𝟏, indexF}
 use Rattle.numeric.specs.Numeric.{inRange, maxF}
 use Rattle.record.specs.Record.{hasGroup}
@@ -12,10 +13,14 @@ use Rattle.matching.specs.declared.StitchParams.{StitchParams}
 -- ---- number 4: counts to 65,535, shares from 0 to 1
 
 abbrev pub count : ℕ → Bool
-count n = leb n 65535
+count n = leb n maxCount
+
+-- the bit pattern of the highest share, 1
+abbrev pub maxShare : ℕ
+maxShare = 0x3f80_0000
 
 abbrev pub share : Float → Bool
-share x = inRange 0x3f80_0000 x
+share x = inRange maxShare x
 
 unfoldable pub soundStitch : StitchParams → Bool
 soundStitch p =

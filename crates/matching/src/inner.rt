@@ -31,12 +31,12 @@ fn at_most(limit: u32, n: u32) -> bool
 pub fn sound_stitch_params(p: StitchParams) -> bool
     ensures { λ r. ⌜ r ≡ soundStitch p ⌝ }
 {
-    (p.min_overlap_frames <= 65535)
-        & (p.max_scan_delta <= 65535)
-        & numeric::in_range(p.jaccard_min, 0x3f80_0000)
-        & (p.max_tof_row_delta <= 65535)
-        & (p.min_im_overlap_scans <= 65535)
-        & numeric::in_range(p.im_jaccard_min, 0x3f80_0000)
+    (p.min_overlap_frames <= limits::MAX_COUNT)
+        & (p.max_scan_delta <= limits::MAX_COUNT)
+        & numeric::in_range(p.jaccard_min, super::MAX_SHARE)
+        & (p.max_tof_row_delta <= limits::MAX_COUNT)
+        & (p.min_im_overlap_scans <= limits::MAX_COUNT)
+        & numeric::in_range(p.im_jaccard_min, super::MAX_SHARE)
 }
 
 // The samples from lo to hi, ends included. One count does not fit, that of all numbers; it is held to 2^32 - 1, which is

@@ -1,6 +1,7 @@
 // Two passes and the owner column.
 use matching::StitchParams;
 use ordering::inner::KeyRule;
+use record::ImPeak1D;
 ghost use mathlib.Core.Path.{_≡_};
 ghost use mathlib.Core.List.{_++_, map};
 ghost use Prim.Native.Nat.{ℕ, _≤_, _<_, _*_};
@@ -104,7 +105,14 @@ pub fn stitch_peaks(
         params: params,
     };
     let m = pass_over(list, n, first, order, owners, merged);
-    let found = pass_over(&merged[..m * 27], m, second, order, groups, out);
+    let found = pass_over(
+        &merged[..m * ImPeak1D::WORDS],
+        m,
+        second,
+        order,
+        groups,
+        out,
+    );
     hand_on(groups, owners, n);
     found
 }

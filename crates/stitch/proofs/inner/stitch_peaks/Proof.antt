@@ -31,13 +31,13 @@ slice-aggregate-pass-over : tie.Need-slice-aggregate-pass-over
 slice-aggregate-pass-over c = let s = c .before .before .before .before .before .before .before .before .before .before .before .before .before .before .before .before .before in
     let a = c .before .before .before .before .before .before .before .pass-over in
     let few = fewer (s .args .list .now) (s .args .params) (s .args .n) (a .result) (a .ensures .0) in
-    sym (length-take-le (a .result * 27) (a .last .1 .1 .1 .1 .1 .0) (omega (arith, few, a .kept .1 .1 .1 .1 .1 .0, s .pre .6)))
+    sym (length-take-le (a .result * size) (a .last .1 .1 .1 .1 .1 .0) (omega (arith, few, a .kept .1 .1 .1 .1 .1 .0, s .pre .6)))
 
 pass-over-requires-2 : tie.Need-pass-over-requires-2
 pass-over-requires-2 c κs = let s = c .before .before .before .before .before .before .before .before .before .before .before .before .before .before .before .before .before .before .before .before in
     let a = c .before .before .before .before .before .before .before .before .before .before .pass-over in
     let few = fewer (s .args .list .now) (s .args .params) (s .args .n) (a .result) (a .ensures .0) in
-    let e = length-take-le (a .result * 27) (a .last .1 .1 .1 .1 .1 .0) (omega (arith, few, a .kept .1 .1 .1 .1 .1 .0, s .pre .6)) in
+    let e = length-take-le (a .result * size) (a .last .1 .1 .1 .1 .1 .0) (omega (arith, few, a .kept .1 .1 .1 .1 .1 .0, s .pre .6)) in
     (omega (arith, e), omega (arith, few, a .kept .1 .1 .1 .0, s .pre .4), omega (arith, few, s .pre .5), omega (arith, few, s .pre .2), omega (arith, few, s .pre .1))
 
 hand-on-requires : tie.Need-hand-on-requires
@@ -46,7 +46,7 @@ hand-on-requires c κs = let s = c .before .before .before .before .before .befo
     let few = fewer (s .args .list .now) (s .args .params) (s .args .n) (a .result) (a .ensures .0) in
     let b = c .before .before .before .before .before .before .before .before .pass-over2 in
     let number = first-number (s .args .list .now) (s .args .params) (s .args .n) (a .result) (a .ensures .0) (a .last .1 .1 .1 .1 .0) (drop (s .args .n) (s .args .owners .now)) (a .ensures .1 .1 .0) in
-    (omega (arith, a .kept .1 .1 .1 .1 .0, s .pre .3), λ k h. omega (arith, number k h, few, b .kept .1 .1 .1 .1 .0, s .pre .5))
+    (omega (arith, few, a .kept .1 .1 .1 .1 .0, s .pre .3), λ k h. omega (arith, number k (omega (arith, h, few)), few, b .kept .1 .1 .1 .1 .0, s .pre .5))
 
 same-length : tie.Need-same-length
 same-length c = search needs
