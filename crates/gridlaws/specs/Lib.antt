@@ -1,0 +1,3 @@
+-- What holds of the peaks of a grid and of their records.
+pub mod GridRecords
+pub mod GridSound

@@ -1,0 +1,1 @@
+// What holds of the peaks of a grid: definitions and laws alone (specs/, proofs/).

@@ -1,0 +1,5 @@
+-- What holds of the peaks of a row and of their records.
+pub mod RowRecords
+pub mod Enclosed
+pub mod RowSound
+pub mod Cases
