@@ -5,20 +5,20 @@ use Prim.Native.Nat.{ℕ, _-_, _*_, _/_}
 use lib.Dec.{ltb, eqb}
 use lib.ListN.{length}
 use lib.Ieee.{Float, binary32, toBits}
+use Rattle.limits.specs.Limits.{exactIndex}
 use Rattle.numeric.specs.Arith.{𝟎}
 use Rattle.apex.specs.Apex.{isCandidate}
-use Rattle.area.specs.declared.AreaAnswer.{AreaAnswer}
-use Rattle.area.specs.declared.AreaAnswer.the-variants.{Area, Refused}
+use Rattle.refusal.specs.Answers.{Says}
+use Rattle.refusal.specs.AnswersLaws.{fromSays}
 use Rattle.record.specs.Record.{size, peakAt, sound}
 
 -- an area's bit pattern, or its number above 32 zero bits
-abbrev pub areaWord : AreaAnswer → ℕ
-areaWord (Area a) = toBits binary32 a
-areaWord (Refused n) = n * 4294967296
+abbrev pub areaWord : Says Float → ℕ
+areaWord s = fromSays (λ a. toBits binary32 a) (λ n. n * 4294967296) s
 
 -- what is asked of an index of a row, and 0 past the row
 abbrev pub inside : List Float → ℕ → Float → Float
-inside y i x = cond (ltb i (length y)) (cond (ltb 16777216 (length y)) 𝟎 x) 𝟎
+inside y i x = cond (ltb i (length y)) (cond (ltb exactIndex (length y)) 𝟎 x) 𝟎
 
 -- an index with a neighbour on either side, and a candidate
 unfoldable pub candidateAt : List Float → ℕ → Bool

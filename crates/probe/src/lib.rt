@@ -1,4 +1,5 @@
 // C entries over the leaves, for the comparison with the Rust (oracle/). They are no part of what is sold.
+use record::ImPeak1D;
 ghost use mathlib.Core.Path.{_≡_};
 ghost use mathlib.Core.Bool.{cond, _&&_};
 ghost use lib.IntN.{pos};
@@ -6,7 +7,8 @@ ghost use lib.Ieee.{binary32, ofInt, ofBits, toBits};
 ghost use Rattle.numeric.specs.Numeric.{maxF, minF, absF, clampF, castF, lerpF, quadF};
 ghost use Rattle.rounding.specs.Rounding.{floorF, ceilF, roundF};
 ghost use Rattle.apex.specs.Apex.{prominence, halfHeight, leftCrossing, rightCrossing};
-ghost use Rattle.area.specs.Area.{areaAnswer};
+ghost use Rattle.refusal.specs.Answers.{answerBy};
+ghost use Rattle.area.specs.Area.{areaF, areaNumber};
 ghost use Rattle.record.specs.Record.{peakAt, withPeak};
 ghost use Rattle.probe.specs.Probe.{areaWord, candidateAt, inside, hasPlace, soundWord};
 
@@ -104,7 +106,7 @@ pub extern "C" fn probe_quad_subsample(y0: f32, y1: f32, y2: f32) -> f32
 // The number times 2 ^ 32, or the area's bit pattern.
 #[no_mangle]
 pub extern "C" fn probe_area(y: &[f32], x0: f32, x1: f32) -> u64
-    ensures { λ r. ⌜ r ≡ areaWord (areaAnswer (now (y .entry)) x0 x1) ⌝ }
+    ensures { λ r. ⌜ r ≡ areaWord (answerBy (areaNumber (now (y .entry)) x0 x1) (areaF (now (y .entry)) x0 x1)) ⌝ }
 {
     match area::trapezoid_area_fractional(y, x0, x1) {
         area::AreaAnswer::Area(a) => numeric::word_of(a) as u64,
@@ -135,7 +137,7 @@ pub extern "C" fn probe_prominence(y: &[f32], i: usize) -> f32
     ensures { λ r. ⌜ r ≡ inside (now (y .entry)) i (prominence (now (y .entry)) i) ⌝ }
 {
     if i < y.len() {
-        if y.len() > 16777216 {
+        if y.len() > limits::EXACT_INDEX {
             return 0.0;
         }
         return apex::inner::rise_of(y, apex::inner::ground_of(y), i).prominence;
@@ -148,7 +150,7 @@ pub extern "C" fn probe_half_height(y: &[f32], i: usize) -> f32
     ensures { λ r. ⌜ r ≡ inside (now (y .entry)) i (halfHeight (now (y .entry)) i) ⌝ }
 {
     if i < y.len() {
-        if y.len() > 16777216 {
+        if y.len() > limits::EXACT_INDEX {
             return 0.0;
         }
         return apex::inner::rise_of(y, apex::inner::ground_of(y), i).half;
@@ -161,7 +163,7 @@ pub extern "C" fn probe_left_crossing(y: &[f32], h: f32, i: usize) -> f32
     ensures { λ r. ⌜ r ≡ inside (now (y .entry)) i (leftCrossing (now (y .entry)) h i) ⌝ }
 {
     if i < y.len() {
-        if y.len() > 16777216 {
+        if y.len() > limits::EXACT_INDEX {
             return 0.0;
         }
         return apex::inner::left_crossing(y, h, i);
@@ -174,7 +176,7 @@ pub extern "C" fn probe_right_crossing(y: &[f32], h: f32, i: usize) -> f32
     ensures { λ r. ⌜ r ≡ inside (now (y .entry)) i (rightCrossing (now (y .entry)) h i) ⌝ }
 {
     if i < y.len() {
-        if y.len() > 16777216 {
+        if y.len() > limits::EXACT_INDEX {
             return 0.0;
         }
         return apex::inner::right_crossing(y, h, i);
@@ -188,8 +190,8 @@ pub extern "C" fn probe_move(list: &[u32], k: usize, out: &mut [u32], j: usize) 
     ensures { λ r. ⌜ r ≡ (hasPlace (now (list .entry)) k && hasPlace (now (out .entry)) j) ⌝ }
     ensures { λ r. ⌜ now (out .exit) ≡ cond r (withPeak (now (out .entry)) j (peakAt (now (list .entry)) k)) (now (out .entry)) ⌝ }
 {
-    if k < list.len() / 27 {
-        if j < out.len() / 27 {
+    if k < list.len() / ImPeak1D::WORDS {
+        if j < out.len() / ImPeak1D::WORDS {
             record::inner::put_peak(out, j, record::inner::peak_at(list, k));
             return true;
         }
@@ -203,7 +205,7 @@ pub extern "C" fn probe_move(list: &[u32], k: usize, out: &mut [u32], j: usize) 
 pub extern "C" fn probe_sound(list: &[u32], k: usize) -> u32
     ensures { λ r. ⌜ r ≡ soundWord (now (list .entry)) k ⌝ }
 {
-    if k < list.len() / 27 {
+    if k < list.len() / ImPeak1D::WORDS {
         if record::inner::is_sound(record::inner::peak_at(list, k)) {
             return 1;
         }

@@ -7,10 +7,8 @@ use Rattle.params.specs.declared.RowPlace.{RowPlace}
 use Rattle.params.specs.declared.FrameBounds.{FrameBounds}
 use Rattle.params.specs.declared.WindowGroup.{WindowGroup}
 use Rattle.params.specs.declared.WindowGroup.the-variants.{Missing, Group}
-use Rattle.smoothing.specs.declared.SmoothAnswer.{SmoothAnswer}
-use Rattle.smoothing.specs.declared.SmoothAnswer.the-variants as Smooth
-use Rattle.row.specs.declared.RowAnswer.{RowAnswer}
-use Rattle.row.specs.declared.RowAnswer.the-variants.{Peaks, Refused}
+use Rattle.refusal.specs.Answers.{Says}
+use Rattle.refusal.specs.AnswersLaws.{fromSays}
 
 abbrev pub groupOf : Bool → ℕ → WindowGroup
 groupOf true g = Group g
@@ -27,10 +25,5 @@ abbrev pub paramsOf : Float → ℕ → ℕ → ImDetectParams
 paramsOf floor d w = record { «min_prom» = floor; «min_distance_scans» = d; «min_width_scans» = w }
 
 -- 64 times the count of peaks, or the number
-abbrev pub answerWord : RowAnswer → ℕ
-answerWord (Peaks n) = n % 4294967296 * 64
-answerWord (Refused n) = n
-
-abbrev pub numberWord : SmoothAnswer → ℕ
-numberWord Smooth.Smoothed = 0
-numberWord (Smooth.Refused n) = n
+abbrev pub answerWord : Says ℕ → ℕ
+answerWord s = fromSays (λ n. n % 4294967296 * 64) (λ n. n) s

@@ -5,11 +5,11 @@ use params::RowPlace;
 use params::WindowGroup;
 ghost use mathlib.Core.Path.{_≡_};
 ghost use lib.ListN.{length};
+ghost use Rattle.refusal.specs.Answers.{answerBy};
 ghost use Rattle.smoothing.specs.Smoothing.{smoothNumber};
-ghost use Rattle.smoothing.specs.Answer.{smoothAnswer};
-ghost use Rattle.row.specs.Row.{kept};
-ghost use Rattle.row.specs.RowNumber.{rowNumber, rowAnswer};
-ghost use Rattle.probe_row.specs.ProbeRow.{groupOf, placeOf, boundsOf, paramsOf, answerWord, numberWord};
+ghost use Rattle.rowsearch.specs.Qualifying.{kept};
+ghost use Rattle.row.specs.RowNumber.{rowNumber};
+ghost use Rattle.probe_row.specs.ProbeRow.{groupOf, placeOf, boundsOf, paramsOf, answerWord};
 
 pub fn group_of(grouped: bool, window_group: u32) -> WindowGroup
     ensures { λ r. ⌜ r ≡ groupOf grouped «window_group» ⌝ }
@@ -24,7 +24,7 @@ pub fn group_of(grouped: bool, window_group: u32) -> WindowGroup
 // The number, 0 for none.
 #[no_mangle]
 pub extern "C" fn probe_smooth(v: &mut [f32], weights: &[f32], scratch: &mut [f32]) -> u32
-    ensures { λ r. ⌜ r ≡ numberWord (smoothAnswer (smoothNumber (now (v .entry)) (now (weights .entry)) (length (now (scratch .entry))))) ⌝ }
+    ensures { λ r. ⌜ r ≡ smoothNumber (now (v .entry)) (now (weights .entry)) (length (now (scratch .entry))) ⌝ }
 {
     match smoothing::smooth_vector_gaussian(v, weights, scratch) {
         smoothing::SmoothAnswer::Smoothed => 0,
@@ -55,7 +55,7 @@ pub extern "C" fn probe_find_im_peaks_row(
     first: u32,
     out: &mut [u32],
 ) -> u64
-    ensures { λ r. ⌜ r ≡ answerWord (rowAnswer (rowNumber (now (y .entry)) (now (z .entry)) (placeOf «tof_row» «tof_center» «tof_lo» «tof_hi») (boundsOf «rt_lo» «rt_hi» «frame_id_lo» «frame_id_hi» (groupOf grouped «window_group»)) (now (mobility .entry)) (paramsOf «min_prom» «min_distance» «min_width») (now (axis .entry)) first (length (now (out .entry)))) (length (kept (paramsOf «min_prom» «min_distance» «min_width») (now (y .entry)) (now (z .entry))))) ⌝ }
+    ensures { λ r. ⌜ r ≡ answerWord (answerBy (rowNumber (now (y .entry)) (now (z .entry)) (placeOf «tof_row» «tof_center» «tof_lo» «tof_hi») (boundsOf «rt_lo» «rt_hi» «frame_id_lo» «frame_id_hi» (groupOf grouped «window_group»)) (now (mobility .entry)) (paramsOf «min_prom» «min_distance» «min_width») (now (axis .entry)) first (length (now (out .entry)))) (length (kept (paramsOf «min_prom» «min_distance» «min_width») (now (y .entry)) (now (z .entry))))) ⌝ }
 {
     let place = RowPlace {
         tof_row,

@@ -4,6 +4,7 @@
 //  the number, the count and the words of the list. The scratch must keep what it has, past the columns, or after a refusal
 //  everywhere.
 use super::lines;
+use record::ImPeak1D;
 ghost use Prim.Native.Nat.{_≤_};
 ghost use lib.ListN.{length};
 
@@ -77,7 +78,7 @@ pub(crate) fn grid_line(words: &[u32]) -> bool {
     lines::floats(words, 24 + nd + nr + ns, &mut mobility);
     lines::floats(words, 24 + nd + nr + ns + nm, &mut weights);
     let at = 24 + nd + nr + ns + nm + nw;
-    let places = room * 27;
+    let places = room * ImPeak1D::WORDS;
     let answer = found(
         words,
         &data[..nd],

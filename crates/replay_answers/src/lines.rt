@@ -3,6 +3,7 @@
 use params::FrameBounds;
 use params::ImDetectParams;
 use params::WindowGroup;
+use record::ImPeak1D;
 use tof::TofScale;
 ghost use Prim.Native.Nat.{_≤_};
 
@@ -109,7 +110,7 @@ fn zeros(list: &[u32]) -> bool {
 fn same_list(words: &[u32], at: usize, count: usize, out: &[u32]) -> bool
     requires { ⌜ (at ≤ 100000) × (count ≤ 4096) ⌝ }
 {
-    let k = count * 27;
+    let k = count * ImPeak1D::WORDS;
     if k <= out.len() {
         return (words.len() == at + k) & same(words, at, &out[..k]) & zeros(&out[k..]);
     }

@@ -5,6 +5,7 @@
 //  33, smoothing: the lengths of row, weights and scratch; row and weights; then the number and the row afterwards.
 use super::lines;
 use params::RowPlace;
+use record::ImPeak1D;
 ghost use Prim.Native.Nat.{_≤_};
 ghost use lib.ListN.{length};
 
@@ -59,7 +60,7 @@ pub(crate) fn row_line(words: &[u32]) -> bool {
     lines::plain(words, 20 + ny + nz, &mut axis);
     lines::floats(words, 20 + ny + nz + na, &mut mobility);
     let at = 20 + ny + nz + na + nm;
-    let places = room * 27;
+    let places = room * ImPeak1D::WORDS;
     let answer = found(
         words,
         &y[..ny],

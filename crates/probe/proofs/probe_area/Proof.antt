@@ -1,3 +1,4 @@
+use Rattle.area.specs.Area.{areaSays}
 use Rattle.probe.specs.Probe.{areaWord}
 use mathlib.Core.Path.{sym, _∙_, ap}
 use borrow.Author.Needs.{needs}
@@ -26,10 +27,10 @@ mul-result : tie.Need-mul-result
 mul-result c = search needs
 
 returns : tie.Need-returns
-returns c = c .word-of .ensures ∙ sym (ap areaWord (sym (c .before .before .before .before .trapezoid-area-fractional .ensures) ∙ c .before .before .a .given .1))
+returns c = c .word-of .ensures ∙ sym (ap areaWord (sym (c .before .before .before .before .trapezoid-area-fractional .ensures) ∙ ap areaSays (c .before .before .a .given .1)))
 
 returns-2 : tie.Need-returns-2
-returns-2 c = sym (ap areaWord (sym (c .before .before .before .trapezoid-area-fractional .ensures) ∙ c .before .n .given .1))
+returns-2 c = sym (ap areaWord (sym (c .before .before .before .trapezoid-area-fractional .ensures) ∙ ap areaSays (c .before .n .given .1)))
 
 pub probe-area-spec : {M : Type 1} → statement M
 probe-area-spec =

@@ -1,3 +1,4 @@
+use Rattle.row.specs.RowNumber.{rowSays}
 use Rattle.probe_row.specs.ProbeRow.{answerWord}
 use mathlib.Core.Path.{sym, _∙_, ap}
 use borrow.Author.Needs.{needs}
@@ -26,13 +27,13 @@ same-length : tie.Need-same-length
 same-length c = search needs
 
 returns : tie.Need-returns
-returns c = let f = c .before .before .before .before .before in rw (← f .before .before .group-of .ensures) (sym (ap answerWord (sym (f .find-im-peaks-row .ensures .0) ∙ c .before .n .given .1)))
+returns c = let f = c .before .before .before .before .before in rw (← f .before .before .group-of .ensures) (sym (ap answerWord (sym (f .find-im-peaks-row .ensures .0) ∙ ap rowSays (c .before .n .given .1))))
 
 same-length-2 : tie.Need-same-length-2
 same-length-2 c = search needs
 
 returns-2 : tie.Need-returns-2
-returns-2 c = let f = c .before .before .before .before .before in rw (← f .before .before .group-of .ensures) (sym (ap answerWord (sym (f .find-im-peaks-row .ensures .0) ∙ c .before .n2 .given .1)))
+returns-2 c = let f = c .before .before .before .before .before in rw (← f .before .before .group-of .ensures) (sym (ap answerWord (sym (f .find-im-peaks-row .ensures .0) ∙ ap rowSays (c .before .n2 .given .1))))
 
 pub probe-find-im-peaks-row-spec : {M : Type 1} → statement M
 probe-find-im-peaks-row-spec =
