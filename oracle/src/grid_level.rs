@@ -1,10 +1,12 @@
 //! Grid detection through the C entry, answers and refusals, with the lent list compared before and after.
 use crate::cluster::peak::{detect_im_peaks_from_tof_scan_grid, ImDetectParams, TofScanGrid};
-use crate::inputs::{any, row, Rng};
+use crate::cluster::utility::smooth_vector_gaussian;
+use crate::inputs::{any, limit, row, Rng};
 use crate::leaves::in_range;
-use crate::row_level::{gaussian, most, sigma, sound_weights, WORDS};
+use crate::row_level::{counted, gaussian, most, near, sigma, sound_weights, WORDS};
+use crate::rows::unfiltered;
 use crate::tof_level::{disagrees, rust_scale};
-use crate::{words, Tally};
+use crate::{shapes, words, Tally};
 use rubzolena::Grid;
 
 /// A grid with its lists, and how the Rust makes its weights.
@@ -119,6 +121,29 @@ pub fn sample(r: &mut Rng) -> (Lists, Grid<'static>) {
         3 if rows < 10 => r.below(400) as usize,
         _ => 3 + r.below(12) as usize,
     };
+    of_size(r, rows, cols, row, sigma)
+}
+
+/// A grid of a few rows of the shapes, with limits near those of the peaks of its first row.
+fn shaped(r: &mut Rng) -> (Lists, Grid<'static>) {
+    let (rows, cols) = (1 + r.below(3) as usize, limit(r));
+    let (lists, mut plain) = of_size(r, rows, cols, shapes::row, counted);
+    if r.one_in(2) {
+        let used = if lists.raw.is_empty() { &lists.data } else { &lists.raw };
+        let mut first = used[..cols].to_vec();
+        if let Some((s, k)) = lists.smoothing {
+            smooth_vector_gaussian(&mut first, s, k);
+        }
+        (plain.min_prom, plain.min_distance_scans, plain.min_width_scans) = near(r, &unfiltered(&first));
+    }
+    (lists, plain)
+}
+
+type RowMaker = fn(&mut Rng, usize) -> Vec<f32>;
+type SigmaMaker = fn(&mut Rng) -> (f32, f32);
+
+/// A grid of rows and smoothing that are made as said.
+fn of_size(r: &mut Rng, rows: usize, cols: usize, row: RowMaker, sigma: SigmaMaker) -> (Lists, Grid<'static>) {
     let step = r.pick(&[1, 2, 3, 4, 7, 100, 65_536]).min(4_194_303 / rows as u32);
     let low = r.below((4_194_303 - step as u64 * (rows as u64 - 1)) / step as u64 + 1) as u32 * step;
     let data: Vec<f32> = (0..rows).flat_map(|_| if r.one_in(3) { vec![0.0; cols] } else { row(r, cols) }).collect();
@@ -196,7 +221,7 @@ pub fn spoil(r: &mut Rng, l: &mut Lists, g: &mut Grid<'static>, room: &mut usize
 pub fn compare(t: &mut Tally, count: u64) {
     let mut r = Rng::new(6);
     for _ in 0..count {
-        let (mut lists, mut plain) = sample(&mut r);
+        let (mut lists, mut plain) = if r.one_in(10) { shaped(&mut r) } else { sample(&mut r) };
         let mut room = WORDS * plain.rows * most(plain.cols) + r.below(3) as usize;
         while r.one_in(3) {
             spoil(&mut r, &mut lists, &mut plain, &mut room);

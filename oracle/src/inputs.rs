@@ -106,6 +106,17 @@ pub fn length(r: &mut Rng) -> usize {
     }
 }
 
+/// A length at or about one at which the port may change its way, or one at which spans are long; seldom of thousands.
+pub fn limit(r: &mut Rng) -> usize {
+    match r.below(2_000) {
+        0 => r.pick(&[16_383, 16_384]),
+        1..=8 => 1_026 + r.below(2_000) as usize,
+        9..=30 => r.pick(&[1_023, 1_024, 1_025]),
+        31..=500 => r.pick(&[63, 64, 65, 127, 128, 129]),
+        _ => 17 + r.below(60) as usize,
+    }
+}
+
 /// A place in a row of n samples, in range and at times past it.
 pub fn place(r: &mut Rng, n: usize) -> f32 {
     let whole = r.below(n as u64 + 3) as f32;

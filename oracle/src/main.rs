@@ -2,7 +2,7 @@
 //!
 //! `oracle compare [N]` compares every function on N seeded inputs (a million by default) and exits with 1 on a difference.
 //! `oracle sample [SEED TIMES]` prints the answers that the program `replay_answers` replays; those stored beside it by default.
-//! `oracle bench` times both sides and prints ratios.
+//! `oracle bench [WORD]` times both sides and prints ratios, of the lines with that word in their name.
 mod bench;
 mod grid_level;
 mod inputs;
@@ -12,6 +12,7 @@ mod records;
 mod row_level;
 mod rows;
 mod sample;
+mod shapes;
 mod tof_level;
 mod words;
 
@@ -63,9 +64,9 @@ fn main() {
             let given = |k: usize, other| words.get(k).map_or(other, |n| n.parse().expect("a number"));
             sample::print(given(2, 4), given(3, 1) as u32);
         }
-        Some("bench") => bench::run(),
+        Some("bench") => bench::run(words.get(2).map_or("", String::as_str)),
         _ => {
-            eprintln!("usage: oracle compare [N] | oracle sample [SEED TIMES] | oracle bench");
+            eprintln!("usage: oracle compare [N] | oracle sample [SEED TIMES] | oracle bench [WORD]");
             std::process::exit(2);
         }
     }

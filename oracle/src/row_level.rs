@@ -1,9 +1,11 @@
 //! The row level: smoothing and the mobility peaks of one TOF row, answers and refusals, with every lent buffer compared
 //! before and after.
+use crate::cluster::peak::ImPeak1D;
 use crate::cluster::utility::{find_im_peaks_row, smooth_vector_gaussian};
-use crate::inputs::{any, length, row, Rng};
+use crate::inputs::{any, length, limit, row, Rng};
 use crate::leaves::in_range;
-use crate::{bits, probe, words, Tally};
+use crate::rows::unfiltered;
+use crate::{bits, probe, shapes, words, Tally};
 
 pub const WORDS: usize = 27;
 
@@ -114,6 +116,22 @@ pub fn sigma(r: &mut Rng) -> (f32, f32) {
     (sigma, r.pick(&[0.5, 1.0, 2.0, 3.0, 4.0]))
 }
 
+/// Sigma and truncation of 3, 19, 255 or 257 weights.
+pub fn counted(r: &mut Rng) -> (f32, f32) {
+    r.pick(&[(1.0, 1.0), (3.0, 3.0), (31.75, 4.0), (32.0, 4.0)])
+}
+
+/// Floor, least distance and least width: none, or at or beside those of peaks that are there.
+pub fn near(r: &mut Rng, peaks: &[ImPeak1D]) -> (f32, u32, u32) {
+    let beside = |r: &mut Rng, x: u32| (x + r.below(3) as u32).saturating_sub(1);
+    let one = |r: &mut Rng| peaks.get(r.below(peaks.len().max(1) as u64) as usize).filter(|_| !r.one_in(3));
+    let floor = one(r).map_or(0, |p| beside(r, p.prominence.to_bits()));
+    let apart = |p: &ImPeak1D| peaks.iter().map(|q| q.scan.abs_diff(p.scan) as u32).filter(|d| *d > 0).min();
+    let distance = one(r).and_then(apart).map_or(0, |d| beside(r, d));
+    let width = one(r).map_or(0, |p| beside(r, p.width_scans as u32));
+    (f32::from_bits(floor), distance, width)
+}
+
 /// One of document 01's cases: an unsmoothed row over scans from 0, least width 0.
 pub fn case(raw: Vec<f32>, min_prom: f32, min_distance: u32) -> Row {
     let n = raw.len();
@@ -141,6 +159,28 @@ pub fn sample(r: &mut Rng) -> Row {
         let (s, t) = sigma(r);
         smooth_vector_gaussian(&mut smoothed, s, t);
     }
+    around(r, smoothed, raw)
+}
+
+/// A row of one of the shapes, smoothed or not, the raw one the same or another, with limits near those of its peaks.
+fn shaped(r: &mut Rng) -> Row {
+    let n = limit(r);
+    let mut smoothed = shapes::row(r, n);
+    let raw = if r.one_in(4) { shapes::row(r, n) } else { smoothed.clone() };
+    if r.one_in(2) {
+        let (s, t) = counted(r);
+        smooth_vector_gaussian(&mut smoothed, s, t);
+    }
+    let mut row = around(r, smoothed, raw);
+    if r.one_in(2) {
+        (row.min_prom, row.min_distance, row.min_width) = near(r, &unfiltered(&row.smoothed));
+    }
+    row
+}
+
+/// What else the row finder is handed.
+fn around(r: &mut Rng, smoothed: Vec<f32>, raw: Vec<f32>) -> Row {
+    let n = raw.len();
     let mut next = r.below(100) as u32;
     let axis = (0..n)
         .map(|_| {
@@ -196,7 +236,7 @@ pub fn spoil(r: &mut Rng, row: &mut Row) {
 pub fn compare(t: &mut Tally, count: u64) {
     let mut r = Rng::new(5);
     for _ in 0..count {
-        let mut row = sample(&mut r);
+        let mut row = if r.one_in(20) { shaped(&mut r) } else { sample(&mut r) };
         while r.one_in(3) {
             spoil(&mut r, &mut row);
         }
@@ -224,9 +264,10 @@ fn same_row(t: &mut Tally, r: &mut Rng, row: &Row) {
 }
 
 fn same_smoothing(t: &mut Tally, r: &mut Rng) {
-    let n = if r.one_in(2_000) { 16_383 + r.below(3) as usize } else { length(r) };
-    let mut v = row(r, n);
-    let (s, k) = sigma(r);
+    let shaped = r.one_in(20);
+    let n = if r.one_in(2_000) { 16_383 + r.below(3) as usize } else if shaped { limit(r) } else { length(r) };
+    let mut v = if shaped { shapes::row(r, n) } else { row(r, n) };
+    let (s, k) = if shaped { counted(r) } else { sigma(r) };
     let mut weights = gaussian(s, k);
     let mut scratch: Vec<f32> = (0..n + r.below(3) as usize).map(|_| r.below(100) as f32).collect();
     if r.one_in(6) {

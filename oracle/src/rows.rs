@@ -2,8 +2,8 @@
 //! filtered out: floor, least distance and least width 0. The half height itself is in no record; it shows in the crossings.
 use crate::cluster::peak::ImPeak1D;
 use crate::cluster::utility::find_im_peaks_row;
-use crate::inputs::{length, row, Rng};
-use crate::{bits, probe, Tally};
+use crate::inputs::{length, limit, row, Rng};
+use crate::{bits, probe, shapes, Tally};
 
 /// Every candidate of a row, as the Rust describes it.
 pub fn unfiltered(y: &[f32]) -> Vec<ImPeak1D> {
@@ -14,8 +14,9 @@ pub fn unfiltered(y: &[f32]) -> Vec<ImPeak1D> {
 pub fn compare(t: &mut Tally, count: u64) {
     let mut r = Rng::new(2);
     for turn in 0..count / 4 {
-        let n = if turn % 20_000 == 0 { 16_384 } else { length(&mut r) };
-        let y = row(&mut r, n);
+        let shaped = r.one_in(50);
+        let n = if turn % 20_000 == 0 { 16_384 } else if shaped { limit(&mut r) } else { length(&mut r) };
+        let y = if shaped { shapes::row(&mut r, n) } else { row(&mut r, n) };
         let shown: Vec<u32> = y.iter().take(40).map(|v| v.to_bits()).collect();
         let peaks = unfiltered(&y);
         let found: Vec<usize> = (0..n).filter(|i| probe::is_candidate(&y, *i)).collect();
