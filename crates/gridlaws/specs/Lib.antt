@@ -1,3 +1,4 @@
 -- What holds of the peaks of a grid and of their records.
 pub mod GridRecords
 pub mod GridSound
+pub mod Cases

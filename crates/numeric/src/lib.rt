@@ -33,6 +33,7 @@ pub fn abs(x: f32) -> f32
     if x == 0.0 { 0.0 } else { x }
 }
 
+// Rust's clamp, but for limits at which that panics: a lower one above the higher, or a NaN.
 pub fn clamp(x: f32, lo: f32, hi: f32) -> f32
     ensures { λ r. ⌜ r ≡ clampF x lo hi ⌝ }
 {

@@ -9,3 +9,4 @@ pub mod Scans
 pub mod Subscan
 pub mod Area
 pub mod RowSound
+pub mod RowAccount

@@ -3,3 +3,4 @@ pub mod RowRecords
 pub mod Enclosed
 pub mod RowSound
 pub mod Cases
+pub mod RowAccount

@@ -1,6 +1,7 @@
 -- What the suppression by least distance d makes of the qualifying apexes qs of a row y, for every d: those kept are some of
 -- qs, in order and at least d apart, and each of qs is kept or gives way, step by step, to one that is kept. The terms stand
--- first and the theorems last; what stands between serves the proofs. Assumes nothing.
+-- first and the theorems last; what stands between serves the proofs and need not be read. The theorems take it that qs ascend and
+-- that their heights are numbers, which holds of the qualifying apexes of any row (QualifyingLaws.antt).
 use mathlib.Core.Path.{_≡_, refl, sym, ap, _∙_}
 use mathlib.Core.Bool.{Bool, true, false, cond}
 use mathlib.Core.List.{List, [], _∷_, _++_, reverse, reverseAux, List·Memᴰ, List·Memᴰ·not-nil, List·Memᴰ·cases-cons, List·Memᴰ·append-cases}
