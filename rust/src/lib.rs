@@ -21,6 +21,9 @@ extern "C" {
 /// Words of a record.
 pub const WORDS: usize = 27;
 
+/// The number of a list that is shorter than the sizes allow; every lower one comes before it.
+const LIST_TOO_SHORT: u32 = 20;
+
 /// The scale of the rows: lowest and highest TOF, both multiples of the step, and the count of bins.
 #[derive(Clone, Copy, Debug, Default)]
 pub struct TofScale {
@@ -84,8 +87,13 @@ impl Peak {
     }
 }
 
-fn bytes<T>(list: &[T]) -> &[u8] {
-    // a list of u32 or f32 is four bytes an element, with no padding
+/// What the entry takes as a word: four bytes without padding. Private, so that there are no others.
+trait Word {}
+impl Word for u32 {}
+impl Word for f32 {}
+
+fn bytes<T: Word>(list: &[T]) -> &[u8] {
+    // each element of a list of words is four bytes that are all written, and a byte needs no alignment
     unsafe { from_raw_parts(list.as_ptr().cast(), size_of_val(list)) }
 }
 
@@ -120,13 +128,15 @@ impl Grid<'_> {
         }
     }
 
-    /// The peaks, or a number.
+    /// The peaks, or a number. Nothing is allocated for a grid that a number below 20 refuses, whatever sizes it claims.
     pub fn detect(&self) -> Result<Vec<Peak>, u32> {
-        let places = self.most_peaks();
-        if places > 1 << 32 {
-            return self.detect_into(&mut []).map(|_| Vec::new());
+        // With an empty list the entry answers 20 exactly where no lower number applies and a list is needed. Then the readings
+        // are there, rows * cols of them, so that the list is at most 14 times as long as they are.
+        match self.detect_into(&mut []) {
+            Err(LIST_TOO_SHORT) => {}
+            answer => return answer.map(|_| Vec::new()),
         }
-        let mut out = vec![0u32; places * WORDS];
+        let mut out = vec![0u32; self.most_peaks() * WORDS];
         let count = self.detect_into(&mut out)?;
         Ok(out[..count * WORDS].chunks_exact(WORDS).map(|w| Peak(w.try_into().unwrap())).collect())
     }

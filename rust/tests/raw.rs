@@ -1,0 +1,96 @@
+//! The C entry called with raw bytes, as no safe caller does: byte lengths that are no whole words, and group flags above 1.
+use rubzolena as _;
+
+extern "C" {
+    fn rubzolena_detect_im_peaks(
+        rows: usize, cols: usize,
+        data: *const u8, data_len: usize, data_raw: *const u8, data_raw_len: usize, scans: *const u8, scans_len: usize,
+        tof_min: u32, tof_max: u32, tof_step: u32, num_bins: u32,
+        rt_lo: u32, rt_hi: u32, frame_id_lo: u32, frame_id_hi: u32, group_flag: u32, window_group: u32,
+        mobility: *const u8, mobility_len: usize,
+        min_prom: f32, min_distance_scans: u32, min_width_scans: u32,
+        weights: *const u8, weights_len: usize, first: u32, out: *mut u8, out_len: usize,
+    ) -> u64;
+}
+
+/// A grid of one row `0 4 0 8 0`, which has two peaks.
+#[derive(Clone)]
+struct Call {
+    data: Vec<u8>,
+    raw: Vec<u8>,
+    scans: Vec<u8>,
+    mobility: Vec<u8>,
+    weights: Vec<u8>,
+    flag: u32,
+    room: usize,
+}
+
+fn bytes_of<const N: usize>(words: [u32; N]) -> Vec<u8> {
+    words.iter().flat_map(|w| w.to_le_bytes()).collect()
+}
+
+fn plain() -> Call {
+    Call {
+        data: bytes_of([0.0f32, 4.0, 0.0, 8.0, 0.0].map(f32::to_bits)),
+        raw: Vec::new(),
+        scans: bytes_of([3, 4, 5, 6, 7]),
+        mobility: bytes_of([1.0f32; 5].map(f32::to_bits)),
+        weights: Vec::new(),
+        flag: 1,
+        room: 2 * 108,
+    }
+}
+
+/// What is answered, and the bytes of the list, which held 0xa5.
+fn answer(c: &Call) -> (u64, Vec<u8>) {
+    let mut out = vec![0xa5u8; c.room];
+    let r = unsafe {
+        rubzolena_detect_im_peaks(
+            1, 5, c.data.as_ptr(), c.data.len(), c.raw.as_ptr(), c.raw.len(), c.scans.as_ptr(), c.scans.len(),
+            0, 0, 1, 1, 0, 0, 0, 0, c.flag, 9, c.mobility.as_ptr(), c.mobility.len(),
+            1.0, 0, 0, c.weights.as_ptr(), c.weights.len(), 0, out.as_mut_ptr(), out.len(),
+        )
+    };
+    (r, out)
+}
+
+fn refused(c: &Call, number: u64, what: &str) {
+    let (r, out) = answer(c);
+    assert_eq!(r, number, "{what}");
+    assert!(out.iter().all(|b| *b == 0xa5), "{what}: the list was written");
+}
+
+#[test]
+fn two_peaks() {
+    let (r, out) = answer(&plain());
+    assert_eq!(r, 2 * 64);
+    assert_eq!([out[40], out[108 + 40]], [1, 3], "the scans of the two records");
+    assert_eq!(answer(&Call { room: 2 * 108 + 40, ..plain() }).1[2 * 108..], [0xa5; 40]);
+}
+
+#[test]
+fn bytes_that_are_no_words() {
+    for odd in 1..4 {
+        refused(&Call { data: vec![0; 20 + odd], ..plain() }, 1, "data");
+        refused(&Call { raw: vec![0; 20 + odd], ..plain() }, 1, "raw data");
+        refused(&Call { scans: vec![0; 20 - odd], ..plain() }, 1, "scans");
+        refused(&Call { mobility: vec![0; 20 + odd], ..plain() }, 1, "mobility");
+        refused(&Call { weights: vec![0; odd], ..plain() }, 1, "weights");
+        refused(&Call { room: 2 * 108 + odd, ..plain() }, 1, "the list");
+        // where raw data is present, the other list is not looked at
+        let raw = plain().data;
+        assert_eq!(answer(&Call { data: vec![0; odd], raw, ..plain() }).0, 2 * 64);
+    }
+}
+
+#[test]
+fn a_flag_above_one() {
+    for flag in [2, 3, u32::MAX] {
+        let c = Call { flag, ..plain() };
+        refused(&c, 4, "the flag alone");
+        refused(&Call { room: 0, ..c.clone() }, 4, "a short list is 20");
+        refused(&Call { scans: bytes_of([3, 4, 5, 6, 65_536]), ..c.clone() }, 4, "a scan too high is 5");
+        refused(&Call { data: bytes_of([0x8000_0000; 5]), ..c.clone() }, 3, "a reading out of range is lower");
+        refused(&Call { mobility: vec![0; 3], ..c }, 1, "bytes that are no words are lower");
+    }
+}

@@ -1,0 +1,36 @@
+/* Calls the C entry from C: null pointers with length 0, a list too short, a row with one peak, sizes without readings. */
+#include <stdio.h>
+#include <string.h>
+
+#include "rubzolena.h"
+
+static uint64_t detect(size_t rows, size_t cols, const uint8_t *data, size_t data_len, const uint8_t *scans, size_t scans_len, uint8_t *out, size_t out_len) {
+    return rubzolena_detect_im_peaks(rows, cols, data, data_len, NULL, 0, scans, scans_len, 0, 0, 1, 1, 0, 0, 0, 0, 0, 0, NULL, 0, 0.0f, 0, 0, NULL, 0, 7, out, out_len);
+}
+
+static int failed = 0;
+
+static void expect(const char *what, uint64_t got, uint64_t wanted) {
+    if (got != wanted) {
+        printf("entry: %s: %llu, not %llu\n", what, (unsigned long long)got, (unsigned long long)wanted);
+        failed = 1;
+    }
+}
+
+int main(void) {
+    const uint8_t row[12] = {0, 0, 0, 0, 0, 0, 0x80, 0x40, 0, 0, 0, 0}; /* 0, 4, 0 */
+    const uint8_t scans[12] = {0, 0, 0, 0, 1, 0, 0, 0, 2, 0, 0, 0};
+    uint8_t out[4 * RUBZOLENA_RECORD_WORDS + 1];
+    memset(out, 0xaa, sizeof out);
+    expect("a list of no bytes", detect(1, 3, row, 12, scans, 12, NULL, 0), RUBZOLENA_LIST_TOO_SHORT);
+    expect("a list one word short", detect(1, 3, row, 12, scans, 12, out, 4 * RUBZOLENA_RECORD_WORDS - 4), RUBZOLENA_LIST_TOO_SHORT);
+    expect("a list that is no whole words", detect(1, 3, row, 12, scans, 12, out, sizeof out), RUBZOLENA_LENGTHS);
+    expect("the list then", out[0], 0xaa);
+    expect("one peak", detect(1, 3, row, 12, scans, 12, out, sizeof out - 1), 64);
+    expect("its scan", out[40], 1);
+    expect("its identity", out[104], 7);
+    expect("the byte after it", out[108], 0xaa);
+    expect("no columns", detect(1, 0, NULL, 0, NULL, 0, NULL, 0), 0);
+    expect("sizes without readings", detect(4194304, 2048, NULL, 0, NULL, 0, NULL, 0), RUBZOLENA_LENGTHS);
+    return failed;
+}
