@@ -12,7 +12,11 @@ use lib.ListN.{length, take, drop, drop-of-length-le}
 use lib.Ieee.{Float, binary32, ofBits}
 use Rattle.refusal.specs.Refusal.{firstOf}
 use Rattle.refusal.specs.RefusalLaws.{appliesFor}
+use Rattle.refusal.specs.Bools.{all4}
+use Rattle.limits.specs.Limits.{maxReading, maxWeight}
 use Rattle.numeric.specs.Arith.{𝟎}
+use Rattle.numeric.specs.Numeric.{allInRange}
+use Rattle.numeric.proofs.Patterns.{all-wider}
 use Rattle.record.specs.Record.{size, sizeInBytes, wordsOf as peakWords, withPeak}
 use Rattle.record.specs.declared.ImPeak1D.{ImPeak1D}
 use Rattle.record.proofs.Laws.{put-part}
@@ -101,6 +105,25 @@ long-weights ws h = rw (ne-eqb (length ws) 0 (λ e. omega arith), lt-leb (length
     go : (a b c : Bool) → false ≡ (a && false && b && c)
     go true b c = refl
     go false b c = refl
+
+-- above 1, or a NaN
+pub wrong-weights : (ws : List Float) → (length ws ≡ 0 → ⊥) → allInRange maxWeight ws ≡ false → false ≡ soundOrNone ws
+unfolding soundWeights
+wrong-weights ws n h = rw (ne-eqb (length ws) 0 n, h) (go (eqb (length ws % 2) 1 && leb (length ws) 257) _)
+  where
+    go : (a b : Bool) → false ≡ (a && false && b)
+    go true b = refl
+    go false b = refl
+
+-- all weights are in the range of readings
+sound-ranged : (ws : List Float) → soundWeights ws ≡ true → allInRange maxReading ws ≡ true
+unfolding soundWeights
+sound-ranged ws h = all-wider maxWeight maxReading ws (omega arith) (all4 (eqb (length ws % 2) 1) h .2)
+
+pub weights-ranged : (ws : List Float) → soundOrNone ws ≡ true → allInRange maxReading ws ≡ true
+unfolding allInRange
+weights-ranged [] h = refl
+weights-ranged (w ∷ ws) h = sound-ranged (w ∷ ws) (rw (ne-eqb (length (w ∷ ws)) 0 (λ e. omega arith)) at h)
 
 pub some-weights : (ws : List Float) (r : Bool) → (length ws ≡ 0 → ⊥) → r ≡ soundWeights ws → r ≡ soundOrNone ws
 some-weights ws r h e = rw (ne-eqb (length ws) 0 h) e

@@ -432,7 +432,7 @@ fn detect_in_32(
     let mut z = [0f32; 32];
     let mut y = [0f32; 32];
     let mut turns = [0u32; 32];
-    let mut bases = [0u32; 16];
+    let mut bases = [0u32; 52];
     let mut found = [0u32; 128];
     detect_lent(
         from,
@@ -475,7 +475,7 @@ fn detect_in_256(
     let mut z = [0f32; 256];
     let mut y = [0f32; 256];
     let mut turns = [0u32; 256];
-    let mut bases = [0u32; 128];
+    let mut bases = [0u32; 272];
     let mut found = [0u32; 1024];
     detect_lent(
         from,
@@ -518,7 +518,7 @@ fn detect_in_1024(
     let mut z = [0f32; 1024];
     let mut y = [0f32; 1024];
     let mut turns = [0u32; 1024];
-    let mut bases = [0u32; 512];
+    let mut bases = [0u32; 800];
     let mut found = [0u32; 4096];
     detect_lent(
         from,
@@ -561,7 +561,7 @@ fn detect_in_16384(
     let mut z = [0f32; 16384];
     let mut y = [0f32; 16384];
     let mut turns = [0u32; 16384];
-    let mut bases = [0u32; 8192];
+    let mut bases = [0u32; 8480];
     let mut found = [0u32; 65536];
     detect_lent(
         from,

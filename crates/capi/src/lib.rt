@@ -27,6 +27,9 @@ fn sound_weights(weights: &[u8]) -> bool
     if m > limits::MAX_WEIGHTS {
         return false;
     }
+    if !wordbytes::inner::all_words_up_to(weights, limits::MAX_WEIGHT) {
+        return false;
+    }
     let mut ws = [0f32; limits::MAX_WEIGHTS];
     wordbytes::inner::decode_floats(weights, 0, &mut ws[..m]);
     smoothing::inner::sound_weights(&ws[..m])
@@ -36,14 +39,15 @@ fn sound_weights(weights: &[u8]) -> bool
 fn see(used: &[u8], scans: &[u8], mobility: &[u8], weights: &[u8]) -> Seen
     ensures { λ r. ⌜ r ≡ seenIn (floatsOf (now (used .entry))) (wordsOf (now (scans .entry))) (floatsOf (now (mobility .entry))) (floatsOf (now (weights .entry))) ⌝ }
 {
+    let rising_scans = wordbytes::inner::is_rising(scans);
     Seen {
         readings: used.len() / 4,
         scans: scans.len() / 4,
         mobility: mobility.len() / 4,
         sound_readings: wordbytes::inner::all_words_up_to(used, limits::MAX_READING),
         sound_mobility: wordbytes::inner::all_words_up_to(mobility, limits::MAX_MOBILITY),
-        sound_scans: wordbytes::inner::all_words_up_to(scans, limits::MAX_SCAN),
-        rising_scans: wordbytes::inner::is_rising(scans),
+        sound_scans: wordbytes::inner::axis_up_to(scans, rising_scans, limits::MAX_SCAN),
+        rising_scans,
         sound_weights: sound_weights(weights),
     }
 }

@@ -308,7 +308,7 @@ fn detect_in_1024<'a>(
     ensures past { λ _. ⌜ drop cols (now (scratch .exit)) ≡ drop cols (now (scratch .entry)) ⌝ }
 {
     let mut turns = [0u32; 1024];
-    let mut bases = [0u32; 512];
+    let mut bases = [0u32; 800];
     let mut found = [0u32; 4096];
     detect_rows(
         raw,
@@ -355,7 +355,7 @@ fn detect_in_16384<'a>(
     ensures past { λ _. ⌜ drop cols (now (scratch .exit)) ≡ drop cols (now (scratch .entry)) ⌝ }
 {
     let mut turns = [0u32; 16384];
-    let mut bases = [0u32; 8192];
+    let mut bases = [0u32; 8480];
     let mut found = [0u32; 65536];
     detect_rows(
         raw,

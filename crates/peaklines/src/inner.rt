@@ -111,7 +111,7 @@ fn put_lines_in_64(
     ensures front { λ r. ⌜ now (out .exit) ≡ rowLines p «tof_row» (now (axis .entry)) (now (y .entry)) ++ drop r (now (out .entry)) ⌝ }
 {
     let mut turns = [0u32; 64];
-    let mut bases = [0u32; 32];
+    let mut bases = [0u32; 68];
     let mut found = [0u32; 256];
     put_lines_in(y, tof_row, p, axis, &mut turns, &mut bases, &mut found, out)
 }
@@ -129,7 +129,7 @@ fn put_lines_in_1024(
     ensures front { λ r. ⌜ now (out .exit) ≡ rowLines p «tof_row» (now (axis .entry)) (now (y .entry)) ++ drop r (now (out .entry)) ⌝ }
 {
     let mut turns = [0u32; 1024];
-    let mut bases = [0u32; 512];
+    let mut bases = [0u32; 800];
     let mut found = [0u32; 4096];
     put_lines_in(y, tof_row, p, axis, &mut turns, &mut bases, &mut found, out)
 }
@@ -147,7 +147,7 @@ fn put_lines_in_4096(
     ensures front { λ r. ⌜ now (out .exit) ≡ rowLines p «tof_row» (now (axis .entry)) (now (y .entry)) ++ drop r (now (out .entry)) ⌝ }
 {
     let mut turns = [0u32; 4096];
-    let mut bases = [0u32; 2048];
+    let mut bases = [0u32; 2336];
     let mut found = [0u32; 16384];
     put_lines_in(y, tof_row, p, axis, &mut turns, &mut bases, &mut found, out)
 }

@@ -223,7 +223,7 @@ fn list_in_1024(
     ensures front { λ r. ⌜ now (out .exit) ≡ rowWords place bounds (now (mobility .entry)) (now (axis .entry)) (now (y .entry)) (now (z .entry)) first (kept p (now (y .entry)) (now (z .entry))) ++ drop (r * size) (now (out .entry)) ⌝ }
 {
     let mut turns = [0u32; 1024];
-    let mut bases = [0u32; 512];
+    let mut bases = [0u32; 800];
     let mut found = [0u32; 4096];
     list_peaks(
         y,
@@ -258,7 +258,7 @@ fn list_in_16384(
     ensures front { λ r. ⌜ now (out .exit) ≡ rowWords place bounds (now (mobility .entry)) (now (axis .entry)) (now (y .entry)) (now (z .entry)) first (kept p (now (y .entry)) (now (z .entry))) ++ drop (r * size) (now (out .entry)) ⌝ }
 {
     let mut turns = [0u32; 16384];
-    let mut bases = [0u32; 8192];
+    let mut bases = [0u32; 8480];
     let mut found = [0u32; 65536];
     list_peaks(
         y,

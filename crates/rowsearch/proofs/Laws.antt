@@ -1,15 +1,16 @@
 -- What the proofs of `rowsearch` cite. Assumes nothing.
 use mathlib.Core.Path.{_≡_, refl, sym, ap, _∙_, subst}
 use mathlib.Core.Bool.{Bool, true, false, cond, not, _&&_, _||_}
-use mathlib.Core.List.{List, [], _∷_, _++_}
+use mathlib.Core.List.{List, [], _∷_, _++_, append-nil}
 use Prim.Native.Nat.{ℕ, zero, suc, _+_, _-_, _*_, _/_, _≤_, _<_}
 use native.Mathlib.Omega.{arith}
 use native.Mathlib.Numerals.{add-one}
 use native.Mathlib.Nat.{zero-add}
+use borrow.Rule.Slice.PartMut.{putMid}
 use borrow.Author.Tests.{ltb-true, ltb-false, lt-ltb, le-ltb, le-leb, lt-leb}
 use lib.Dec.{T, ltb, leb, lit<}
 use lib.ListN.{length, getD, take, drop, length-append, length-take, length-drop, drop-of-length-le, List·getD-append}
-use lib.Seq.{drop-cons, length-take-le, getD-append-add, getD-take}
+use lib.Seq.{drop-cons, length-take-le, getD-append-add, getD-take, drop-at, take-all}
 use lib.Ieee.{Float, nan, binary32, lt, le, isNan, ofBits, fits}
 use lib.Ieee.Bits.{ofBits-toBits}
 use Rattle.numeric.specs.Arith.{at, 𝟎, ½, _⊕_, _⊗_, _⊖_}
@@ -366,3 +367,21 @@ none-yet ks = drop-of-length-le ks {i = length ks - 0} (omega arith)
 
 pub all-now : (ks : List ℕ) (j : ℕ) → j ≡ length ks → oldest j ks ≡ ks
 all-now ks j e = let z : length ks - j ≡ 0 = omega arith in rw z
+
+-- ---- a list whose front stays while the rest is lent
+abbrev pub restOf : ℕ → List ℕ → List ℕ
+restOf m l = take (length l - m) (drop m l)
+
+pub rest-length : (m : ℕ) (l : List ℕ) → length (restOf m l) ≡ length l - m
+rest-length m l = length-take-le (length l - m) (drop m l) (rw length-drop (omega arith)) 
+
+module _ (l p : List ℕ) (m : ℕ) (fits : m ≤ length l) where
+  pub put-front : (j : ℕ) → j < m → getD (putMid m (length l - m) l p) j 0 ≡ getD l j 0
+  put-front j h = List·getD-append (take m l) _ 0 j (rw (length-take-le m l fits) h) ∙ getD-take m l j 0 h
+
+  pub put-rest : length p ≡ length l - m → restOf m (putMid m (length l - m) l p) ≡ p
+  put-rest e =
+      let none : drop (length l - m) (drop m l) ≡ [] = drop-of-length-le (drop m l) {i = length l - m} (simp length-drop (omega arith)) in
+      let all : putMid m (length l - m) l p ≡ take m l ++ p = rw (none, append-nil) in
+      let n : length (take m l ++ p) - m ≡ length p = rw (length-append, length-take-le m l fits) (omega arith) in
+      rw (all, n, drop-at (take m l) p m (length-take-le m l fits)) (take-all (length p) p (omega arith))

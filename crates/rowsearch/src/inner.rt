@@ -9,7 +9,7 @@ ghost use lib.Ieee.{binary32, fits};
 ghost use lib.ListN.{length, drop};
 ghost use Rattle.limits.specs.Limits.{exactIndex};
 ghost use Rattle.numeric.specs.Arith.{𝟎};
-ghost use Rattle.spans.specs.Memo.{memoSize, Memo};
+ghost use Rattle.spans.specs.Memo.{Memo};
 ghost use Rattle.sweep.specs.Searched.{Searched};
 ghost use Rattle.rowsearch.specs.Qualifying.{highest, reaches};
 ghost use Rattle.rowsearch.specs.Found.{foundSize, word, measuredWords, measuredAt, withMeasured, Fits, Found, keepIf, Keeps, Spot, keptOf, Searchable, Done};
@@ -189,18 +189,17 @@ fn keep_next(
 }
 
 // The apexes of a row that are kept, of the m candidates whose baselines are known. Answers how many there are; what is measured
-// of them stands at the front of `found`. The memo is scratch.
+// of them stands at the front of `found`. What `bases` holds behind the baselines is the memo.
 fn keep_all(
     y: &[f32],
     z: &[f32],
     turns: &[u32],
-    bases: &[u32],
+    bases: &mut [u32],
     m: usize,
     p: ImDetectParams,
-    memo: &mut [u32],
     found: &mut [u32],
 ) -> usize
-    requires { ⌜ Searched (now y) (now turns) (now bases) m × (length (now y) ≤ exactIndex) × (length (now z) ≤ exactIndex) × (m * foundSize ≤ length (now found)) × (memoSize ≤ length (now memo)) ⌝ }
+    requires { ⌜ Searched (now y) (now turns) (now bases) m × (length (now y) ≤ exactIndex) × (length (now z) ≤ exactIndex) × (m * foundSize ≤ length (now found)) ⌝ }
     ensures { λ r. ⌜ (r ≡ length (keptOf p (now (y .entry)) (now (turns .entry)) m)) × Found (now (y .entry)) (now (z .entry)) (now (found .exit)) (keptOf p (now (y .entry)) (now (turns .entry)) m) ⌝ }
 {
     let mut s = Keeping {
@@ -211,7 +210,7 @@ fn keep_all(
     for k in 0..m {
         let i = index_of(turns[2 * k + 1]);
         let base = numeric::float_of(bases[k]);
-        s = keep_next(y, z, base, i, p, s, memo, found);
+        s = keep_next(y, z, base, i, p, s, &mut bases[m..], found);
     }
     s.count
 }
@@ -231,6 +230,5 @@ pub fn find_apexes(
 {
     numeric::inner::all_fit(y);
     let m = sweep::inner::find(y, turns, bases, found);
-    let mut memo = [0u32; 288];
-    keep_all(y, z, turns, bases, m, p, &mut memo, found)
+    keep_all(y, z, turns, bases, m, p, found)
 }

@@ -15,7 +15,7 @@ use lib.Ieee.{Float, binary32, ofBits}
 use Rattle.apex.specs.Apex.{leftFoot, rightFoot, leftCrossing, rightCrossing}
 use Rattle.apex.proofs.Laws.{feet-same}
 use Rattle.spans.specs.Span.{reachOf, spanOf}
-use Rattle.spans.specs.Memo.{entry, memoSize, wordOf, keptSpan, Serves, Memo, Looked}
+use Rattle.spans.specs.Memo.{entry, wordOf, keptSpan, Serves, Memo, Looked}
 use Rattle.spans.specs.Steps.{Between, Kept}
 use Rattle.spans.specs.declared.inner.Reach.{Reach}
 use Rattle.spans.specs.declared.inner.Span.{Span}
@@ -65,21 +65,20 @@ serves-words y z m n i k t l e s = record {
 }
 
 -- none at first; the first of them, also further right
-pub memo-none : (y z : List Float) (m : List ℕ) (i : ℕ) → memoSize ≤ length m → Memo y z m 0 i
-memo-none y z m i l = record { long = l; few = omega arith; all = λ t h. absurd (omega arith) }
+pub memo-none : (y z : List Float) (m : List ℕ) (i : ℕ) → Memo y z m 0 i
+memo-none y z m i = record { few = omega arith; all = λ t h. absurd (omega arith) }
 
 pub memo-fewer : (y z : List Float) (m : List ℕ) (d e i : ℕ) → e ≤ d → Memo y z m d i → Memo y z m e i
-memo-fewer y z m d e i l g = record { long = g .long; few = omega (arith, g .few); all = λ t h. g .all t (omega arith) }
+memo-fewer y z m d e i l g = record { few = omega (arith, g .few); all = λ t h. g .all t (omega arith) }
 
 pub memo-later : (y z : List Float) (m : List ℕ) (d i k : ℕ) → i ≤ k → Memo y z m d i → Memo y z m d k
-memo-later y z m d i k l g = record { long = g .long; few = g .few; all = λ t h. serves-words y z m m i k t l (λ j b. refl) (g .all t h) }
+memo-later y z m d i k l g = record { few = g .few; all = λ t h. serves-words y z m m i k t l (λ j b. refl) (g .all t h) }
 
 -- and one more that was measured at i
 module _ (y z : List Float) (h : Float) (i from to d : ℕ) (s : Span) (m n : List ℕ) where
-  pub memo-more : i < length y → d * entry + entry ≤ memoSize → length n ≡ length m → from ≡ leftFoot y h i → to ≡ rightFoot y h i → Between from to i
+  pub memo-more : i < length y → d * entry + entry ≤ length m → length n ≡ length m → from ≡ leftFoot y h i → to ≡ rightFoot y h i → Between from to i
       → s ≡ spanOf y z h i → Kept h from to s d m n → Memo y z m d i → Memo y z n (d + 1) (i + 1)
   memo-more l room len p q b e k g = record {
-    long = omega (arith, g .long);
     few = omega arith;
     all = λ t v. ⊎-elim (λ w. rw w new) (λ w. serves-words y z m n i (i + 1) t (omega arith) (λ j r. k .others (t * entry + j) (omega arith)) (g .all t (omega arith))) (eq-or-lt-of-le {n = t} {m = d} (omega arith));
   }

@@ -15,9 +15,6 @@ use Rattle.spans.specs.declared.inner.Look.{Look}
 abbrev pub entry : ℕ
 entry = 9
 
-abbrev pub memoSize : ℕ
-memoSize = 288
-
 abbrev pub wordOf : List ℕ → ℕ → ℕ → ℕ
 wordOf memo t j = getD memo (t * entry + j) 0
 
@@ -40,8 +37,7 @@ pub record Serves (y z : List Float) (memo : List ℕ) (i t : ℕ) : Type 0 wher
 
 -- so do the first d
 pub record Memo (y z : List Float) (memo : List ℕ) (d i : ℕ) : Type 0 where
-  pub long : memoSize ≤ length memo
-  pub few : d * entry ≤ memoSize
+  pub few : d * entry ≤ length memo
   pub all : (t : ℕ) → t < d → Serves y z memo i t
 
 -- what is seen of the apex at i: whether it is wide enough, and if so its span; the memo then has `depth` spans

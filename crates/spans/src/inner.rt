@@ -7,13 +7,11 @@ ghost use lib.ListN.{length, drop};
 ghost use lib.Ieee.{binary32, ofBits};
 ghost use Rattle.limits.specs.Limits.{exactIndex};
 ghost use Rattle.spans.specs.Span.{widthOf, reachOf, spanOf};
-ghost use Rattle.spans.specs.Memo.{entry, memoSize, wordOf, keptSpan, Memo, Looked};
+ghost use Rattle.spans.specs.Memo.{entry, wordOf, keptSpan, Memo, Looked};
 ghost use Rattle.spans.specs.Steps.{Open, Between, Kept};
 
-// The words of a kept span, and how many words of the memo are used.
+// The words of a kept span.
 const ENTRY: usize = 9;
-
-const MEMO: usize = 288;
 
 // A span between feet that are farther apart than this is kept.
 const LONG: usize = 16;
@@ -219,12 +217,13 @@ fn measure(y: &[f32], z: &[f32], h: f32, i: usize, least: u32, memo: &mut [u32],
     if is_long(r.left_foot, r.right_foot, i) {
         let s = span_of(y, z, h, i, r);
         let wide = s.width >= least;
-        if (d + 1) * ENTRY <= MEMO {
+        let depth = d + 1;
+        if depth * ENTRY <= memo.len() {
             keep(memo, d, h, r.left_foot, r.right_foot, s);
             return Look {
                 wide,
                 span: s,
-                depth: d + 1,
+                depth,
             };
         }
         return Look {

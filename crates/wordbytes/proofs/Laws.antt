@@ -2,18 +2,21 @@
 use mathlib.Core.Path.{_≡_, refl, sym, ap, _∙_, subst}
 use mathlib.Core.Bool.{Bool, true, false, not, _&&_}
 use mathlib.Core.List.{List, [], _∷_, _++_, map, append-assoc, append-nil}
-use Prim.Native.Nat.{ℕ, suc, _+_, _*_, _/_, _%_, _^_, _≤_, _<_}
+use Prim.Native.Nat.{ℕ, suc, _+_, _*_, _/_, _%_, _^_, _-_, _≤_, _<_}
 use native.Mathlib.Numerals.{add-one}
 use native.Mathlib.Omega.{arith}
-use borrow.Author.Tests.{lt-leb, ltb-true, ltb-false}
+use borrow.Author.Tests.{lt-leb, le-leb, ltb-true, ltb-false, leb-true}
 use lib.Dec.{T, leb, ltb}
 use lib.ListN.{length, getD, take, drop, set}
 use lib.Seq.{take-all, take-suc, take-at, drop-at, drop-cons, drop-drop, length-take-le, set-at, sets-eq, drop-length}
-use lib.Ieee.{Float, nan, binary32, ofBits, toBits}
+use lib.Ieee.{Float, nan, binary32, ofBits, toBits, nanBits}
 use lib.Ieee.Bits.{toBits-ofBits, nanBits-is}
+use Rattle.numeric.specs.Arith.{at}
+use Rattle.numeric.proofs.Patterns.{range-at}
 use Rattle.numeric.specs.Numeric.{inRange, allInRange}
 use Rattle.numeric.proofs.Laws.{no-nan, is-nan, and-true, and-assoc}
-use Rattle.params.specs.Params.{allUpTo}
+use Rattle.refusal.specs.Bools.{both, and-false}
+use Rattle.params.specs.Params.{allUpTo, rising, risingFrom}
 use Rattle.wordbytes.specs.Bytes.{wordsOf, floatsOf, bytesOfWord, bytesOf, withWord}
 use Rattle.wordbytes.specs.BytesLaws.{words-length, floats-length, bytes-append, bytes-length}
 
@@ -74,6 +77,14 @@ range-word limit w h g = go (ltb 0x7f80_0000 (w % 0x8000_0000)) refl
         let k : w % 0x8000_0000 ≤ 0x7f80_0000 = ltb-false _ _ e in
         rw (toBits-ofBits binary32 w h (subst (λ (b : Bool). T (not b)) (nanBits-is binary32 w) (no-nan w k)))
 
+-- a float of a list that is in range has no pattern of a NaN
+pub in-range-no-nan : (limit : ℕ) (l : List Float) (k w : ℕ) → limit < 0x7f80_0000 → allInRange limit l ≡ true → k < length l → w < 2 ^ 32 → at l k ≡ ofBits binary32 w
+    → T (not (nanBits binary32 w))
+in-range-no-nan limit l k w g h m b e =
+    let r : inRange limit (ofBits binary32 w) ≡ true = rw (← e) (range-at limit l k h m) in
+    let u = leb-true w limit (sym (range-word limit w b g) ∙ r) in
+    no-nan w (omega arith)
+
 pub up-to-snoc : (limit : ℕ) (ws : List ℕ) (w : ℕ) → allUpTo limit (ws ++ (w ∷ [])) ≡ (allUpTo limit ws && leb w limit)
 unfolding allUpTo
 up-to-snoc limit [] w = and-true _
@@ -103,3 +114,24 @@ pub decoded-words : (b zeros last : List ℕ) → length b / 4 ≤ length zeros
     → last ≡ take (length (take (length b / 4) zeros)) (wordsOf b) → last ≡ wordsOf b
 decoded-words b zeros last h e =
     e ∙ rw (length-take-le (length b / 4) zeros h) (take-all (length b / 4) (wordsOf b) (let l : length (wordsOf b) ≡ length b / 4 = words-length b (length b / 4) in omega arith))
+
+-- ---- an axis that rises: its last word is the highest
+rising-last : (limit s : ℕ) (ss : List ℕ) → risingFrom s ss ≡ true
+    → (s ≤ getD (s ∷ ss) (length ss) 0) × (allUpTo limit (s ∷ ss) ≡ leb (getD (s ∷ ss) (length ss) 0) limit)
+unfolding risingFrom allUpTo
+rising-last limit s [] h = (omega arith, and-true _)
+rising-last limit s (t ∷ ts) h =
+    let b = both (ltb s t) h in
+    let r = rising-last limit t ts (b .1) in
+    let below = ltb-true s t (b .0) in
+    (omega (arith, r .0), ap (λ (x : Bool). leb s limit && x) (r .1) ∙ go (leb (getD (t ∷ ts) (length ts) 0) limit) refl (omega (arith, r .0)))
+  where
+    go : (x : Bool) → leb (getD (t ∷ ts) (length ts) 0) limit ≡ x → s ≤ getD (t ∷ ts) (length ts) 0 → (leb s limit && x) ≡ x
+    go true e l = rw (le-leb s limit (let k = leb-true _ limit e in omega arith))
+    go false e l = and-false (leb s limit)
+
+pub rising-up-to : (limit : ℕ) (l : List ℕ) (n : ℕ) → length l ≡ n → 0 < n → rising l ≡ true → allUpTo limit l ≡ leb (getD l (n - 1) 0) limit
+unfolding rising
+rising-up-to limit [] n e h r = absurd (omega arith)
+rising-up-to limit (s ∷ ss) n e h r =
+    let k : n - 1 ≡ length ss = omega arith in rw k (rising-last limit s ss r .1)

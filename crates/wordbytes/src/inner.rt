@@ -1,8 +1,10 @@
 // Words and floats read from bytes, words written to bytes, and tests of words in bytes.
 ghost use mathlib.Core.Path.{_≡_};
+ghost use mathlib.Core.Bool.{true};
 ghost use mathlib.Core.List.{_++_};
 ghost use Prim.Native.Nat.{_≤_, _<_, _+_, _*_};
 ghost use lib.ListN.{length, take, drop};
+ghost use Rattle.limits.specs.Limits.{maxReading};
 ghost use Rattle.numeric.specs.Numeric.{allInRange};
 ghost use Rattle.params.specs.Params.{allUpTo, rising};
 ghost use Rattle.wordbytes.specs.Bytes.{wordAt, wordsOf, floatsOf, bytesOf, withWord};
@@ -54,13 +56,13 @@ pub fn decode_words(b: &[u8], out: &mut [u32])
     }
 }
 
-// Fills `out` with the floats from the word `from` on.
+// Fills `out` with the floats from the word `from` on, where all are known to be in range: so each word is taken as it is.
 pub fn decode_floats(b: &[u8], from: usize, out: &mut [f32])
-    requires { ⌜ (from + length (now out)) * 4 ≤ length (now b) ⌝ }
+    requires { ⌜ ((from + length (now out)) * 4 ≤ length (now b)) × (allInRange maxReading (floatsOf (now b)) ≡ true) ⌝ }
     ensures { λ _. ⌜ now (out .exit) ≡ take (length (now (out .entry))) (drop from (floatsOf (now (b .entry)))) ⌝ }
 {
     for i in 0..out.len() {
-        out[i] = numeric::float_of(word_at(b, from + i));
+        out[i] = f32::from_bits(word_at(b, from + i));
     }
 }
 
@@ -90,4 +92,18 @@ pub fn is_rising(b: &[u8]) -> bool
         all = all & (word_at(b, i - 1) < word_at(b, i));
     }
     all
+}
+
+// Whether no word is above the limit, where it is known whether they rise: if so, the last is the highest.
+pub fn axis_up_to(b: &[u8], rises: bool, limit: u32) -> bool
+    requires { ⌜ rises ≡ rising (wordsOf (now b)) ⌝ }
+    ensures { λ r. ⌜ r ≡ allUpTo limit (wordsOf (now (b .entry))) ⌝ }
+{
+    let n = b.len() / 4;
+    if rises {
+        if n > 0 {
+            return word_at(b, n - 1) <= limit;
+        }
+    }
+    all_words_up_to(b, limit)
 }

@@ -17,38 +17,32 @@ use Rattle.capi.proofs.sound_weights.Reads as sound-weights-reads
 use Rattle.wordbytes.proofs.inner.all_words_up_to.Reads as all-words-up-to-reads
 use Rattle.wordbytes.proofs.inner.is_rising.Reads as is-rising-reads
 
--- src/lib.rt:43:25
-all-words-up-to-requires : tie.Need-all-words-up-to-requires
-all-words-up-to-requires c κs = search needs
-
--- src/lib.rt:44:25
-all-words-up-to-requires-2 : tie.Need-all-words-up-to-requires-2
-all-words-up-to-requires-2 c κs = search needs
-
--- src/lib.rt:45:22
-all-words-up-to-requires-3 : tie.Need-all-words-up-to-requires-3
-all-words-up-to-requires-3 c κs = search needs
-
--- src/lib.rt:46:23
 is-rising-requires : tie.Need-is-rising-requires
 is-rising-requires c κs = search needs
 
--- src/lib.rt:47:24
+all-words-up-to-requires : tie.Need-all-words-up-to-requires
+all-words-up-to-requires c κs = search needs
+
+all-words-up-to-requires-2 : tie.Need-all-words-up-to-requires-2
+all-words-up-to-requires-2 c κs = search needs
+
+axis-up-to-requires : tie.Need-axis-up-to-requires
+axis-up-to-requires c κs = c .before .before .is-rising .ensures
+
 sound-weights-requires : tie.Need-sound-weights-requires
 sound-weights-requires c κs = search needs
 
--- src/lib.rt:36:1
 returns : tie.Need-returns
 returns c = let x = c .before .before .before .before .before .before .before .before .before .args in
-    rw (floats-length (x .used .now), words-length (x .scans .now) (length (x .scans .now) / 4), floats-length (x .mobility .now), c .sound-weights .ensures, c .before .is-rising .ensures, c .before .before .all-words-up-to3 .ensures .0, c .before .before .before .all-words-up-to2 .ensures .1 (omega arith), c .before .before .before .before .all-words-up-to .ensures .1 (omega arith))
+    rw (floats-length (x .used .now), words-length (x .scans .now) (length (x .scans .now) / 4), floats-length (x .mobility .now), c .sound-weights .ensures, c .before .axis-up-to .ensures, c .before .before .all-words-up-to2 .ensures .1 (omega arith), c .before .before .before .all-words-up-to .ensures .1 (omega arith), c .before .before .before .before .is-rising .ensures)
 
 pub see-spec : {M : Type 1} → statement M
 see-spec =
     tie.close
     (tie.spec
+    is-rising-requires
     all-words-up-to-requires
     all-words-up-to-requires-2
-    all-words-up-to-requires-3
-    is-rising-requires
+    axis-up-to-requires
     sound-weights-requires
     returns)

@@ -37,7 +37,7 @@ slice-aggregate-detect-lent-5 c = search needs
 
 -- src/inner.rt:523:5
 detect-lent-requires : tie.Need-detect-lent-requires
-detect-lent-requires c κs = let s = c .before .before .before .before .before .before .before .before .before .before .before in (s .pre .0 .ready, s .pre .1, lent (s .args .cols) 16384 16384 8192 65536 (s .pre .1) (s .pre .1) (omega arith) (omega arith))
+detect-lent-requires c κs = let s = c .before .before .before .before .before .before .before .before .before .before .before in (s .pre .0 .ready, s .pre .1, lent (s .args .cols) 16384 16384 8480 65536 (s .pre .1) (s .pre .1) (omega arith) (omega arith))
 
 -- src/inner.rt:501:1
 same-length : tie.Need-same-length

@@ -50,7 +50,7 @@ decode-floats-requires : tie.Need-decode-floats-requires
 decode-floats-requires c κs = let s = c .before .before .before .before .before .before .before .before .before .before .before .before .before in
     let f = floats-length (s .args .used .now) in
     let r = s .pre .0 .readings in
-    rw (s .pre .1) (omega arith)
+    (rw (s .pre .1) (omega arith), s .pre .0 .ranged)
 
 -- src/inner.rt:131:5
 list-row-requires : tie.Need-list-row-requires

@@ -9,6 +9,7 @@ use Rattle.wordbytes.proofs.Laws.{decoded-floats, decode-from}
 use Rattle.grid.specs.Steps.{gridOf, Ready, Done}
 use Rattle.grid.proofs.Laws.{few-weights}
 use Rattle.capi.specs.Entry.{asBytes}
+use Rattle.capi.proofs.Laws.{weights-ranged}
 use mathlib.Core.Path.{sym, _∙_, ap, subst}
 use mathlib.Core.List.{List}
 use Prim.Native.Nat.{_≤_}
@@ -34,7 +35,8 @@ slice-aggregate-decode-floats : tie.Need-slice-aggregate-decode-floats
 slice-aggregate-decode-floats c = sym (length-take-le (length (c .before .before .before .before .before .before .before .before .before .before .before .args .weights .now) / 4) _ (fits (c .before .before .before .before .before .before .before .before .before .before .before)))
 
 decode-floats-requires : tie.Need-decode-floats-requires
-decode-floats-requires c κs = decode-from (c .before .before .before .before .before .before .before .before .before .before .before .args .weights .now) _ (fits (c .before .before .before .before .before .before .before .before .before .before .before))
+decode-floats-requires c κs = let s = c .before .before .before .before .before .before .before .before .before .before .before in
+    (decode-from (s .args .weights .now) _ (fits s), weights-ranged (floatsOf (s .args .weights .now)) (s .pre .0 .weighed))
 
 array-share-prefix-ws : tie.Need-array-share-prefix-ws
 array-share-prefix-ws c = let e = c .before .decode-floats .kept .1 .1 .0 ∙ length-take-le (length (c .before .before .before .before .before .before .before .before .before .before .before .before .before .args .weights .now) / 4) _ (fits (c .before .before .before .before .before .before .before .before .before .before .before .before .before)) in

@@ -30,7 +30,7 @@ slice-aggregate-detect-rows-3 c = search needs
 -- src/inner.rt:302:5
 detect-rows-requires : tie.Need-detect-rows-requires
 detect-rows-requires c κs = let s = c .before .before .before .before .before .before .before .before .before .before .before .before .before in
-    (s .pre .0, s .pre .1, lent (s .args .cols) _ 1024 512 4096 (s .pre .2) (s .pre .3) (omega arith) (omega arith))
+    (s .pre .0, s .pre .1, lent (s .args .cols) _ 1024 800 4096 (s .pre .2) (s .pre .3) (omega arith) (omega arith))
 
 -- src/inner.rt:278:1
 same-length : tie.Need-same-length

@@ -30,7 +30,7 @@ slice-aggregate-detect-rows-3 c = search needs
 -- src/inner.rt:349:5
 detect-rows-requires : tie.Need-detect-rows-requires
 detect-rows-requires c κs = let s = c .before .before .before .before .before .before .before .before .before .before .before .before .before in
-    (s .pre .0, s .pre .1, lent (s .args .cols) _ 16384 8192 65536 (s .pre .2) (s .pre .3) (omega arith) (omega arith))
+    (s .pre .0, s .pre .1, lent (s .args .cols) _ 16384 8480 65536 (s .pre .2) (s .pre .3) (omega arith) (omega arith))
 
 -- src/inner.rt:325:1
 same-length : tie.Need-same-length

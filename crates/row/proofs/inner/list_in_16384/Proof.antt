@@ -30,7 +30,7 @@ slice-aggregate-list-peaks-3 c = search needs
 -- src/inner.rt:231:5
 list-peaks-requires : tie.Need-list-peaks-requires
 list-peaks-requires c κs = let s = c .before .before .before .before .before .before .before .before .before in
-    (s .pre .0, searchable 16384 8192 65536 (s .pre .0) (s .pre .1) (s .pre .2) (omega arith) (omega arith))
+    (s .pre .0, searchable 16384 8480 65536 (s .pre .0) (s .pre .1) (s .pre .2) (omega arith) (omega arith))
 
 -- src/inner.rt:213:1
 same-length : tie.Need-same-length

@@ -40,18 +40,14 @@ find-requires c κs = let a = c .before .before .before in
       stack-long = let l = r .found-long in omega arith;
     }
 
--- src/inner.rt:234:40
-slice-aggregate-keep-all : tie.Need-slice-aggregate-keep-all
-slice-aggregate-keep-all c = search needs
-
 -- src/inner.rt:234:5
 keep-all-requires : tie.Need-keep-all-requires
-keep-all-requires c κs = let f = c .before .before .before .before .before .before .before .before .before .before in
+keep-all-requires c κs = let f = c .before .before .before .before .before .before .before .before .before in
     let s = start f in
     let few = few-apexes (s .args .y .now) _ _ (f .find .result) (f .find .ensures) in
     let same = f .find .kept .1 .1 .1 .0 in
     let l = s .pre .room .found-long in
-    (f .find .ensures, s .pre .short, omega (arith, s .pre .raw, s .pre .short), omega arith, omega arith)
+    (f .find .ensures, s .pre .short, omega (arith, s .pre .raw, s .pre .short), omega arith)
 
 -- src/inner.rt:220:1
 same-length : tie.Need-same-length
@@ -67,14 +63,14 @@ same-length-3 c = search needs
 
 -- src/inner.rt:220:1
 returns : tie.Need-returns
-returns c = let k = c .before .before .before in
-    let f = k .before .before .before .before .before .before .before .before .before .before .before in
+returns c = let k = c .before .before .before .before in
+    let f = k .before .before .before .before .before .before .before .before .before .before in
     let s = start f in
     let e = kept-of-row (s .args .p) (s .args .y .now) (s .args .z .now) _ _ (f .find .result) (f .find .ensures) (s .pre .floor) in
     let few = kept-count (s .args .p) (s .args .y .now) (s .args .z .now) in
     let n = k .keep-all .ensures .0 ∙ ap length e in
     let l = s .pre .room .found-long in
-    record { count = n; stand = rw e at (k .keep-all .ensures .1); room = omega (arith, k .keep-all .kept .1 .1 .1 .1 .1 .1 .1 .0, f .find .kept .1 .1 .1 .0) }
+    record { count = n; stand = rw e at (k .keep-all .ensures .1); room = omega (arith, k .keep-all .kept .1 .1 .1 .1 .1 .1 .0, f .find .kept .1 .1 .1 .0) }
 
 pub find-apexes-spec : {M : Type 1} → statement M
 find-apexes-spec =
@@ -82,7 +78,6 @@ find-apexes-spec =
     (tie.spec
     all-fit-requires
     find-requires
-    slice-aggregate-keep-all
     keep-all-requires
     same-length
     same-length-2

@@ -14,8 +14,8 @@ is-long-requires c κs = search needs
 span-of-requires : tie.Need-span-of-requires
 span-of-requires c κs = search needs
 
-add-if2 : tie.Need-add-if2
-add-if2 c = search needs
+add-depth : tie.Need-add-depth
+add-depth c = search needs
 
 mul-if2 : tie.Need-mul-if2
 mul-if2 c = search needs
@@ -27,9 +27,6 @@ keep-requires c κs = let o = c .before .before .before .before .before .before 
     let z = s .args .z .now in
     let e = o .reach-of .ensures in
     (omega arith, omega (arith, reach-left y z (s .args .h) (s .args .i) _ e), omega (arith, reach-right y z (s .args .h) (s .args .i) _ e))
-
-add-t18 : tie.Need-add-t18
-add-t18 c = search needs
 
 same-length : tie.Need-same-length
 same-length c = search needs
@@ -80,10 +77,9 @@ measure-spec =
     reach-of-requires
     is-long-requires
     span-of-requires
-    add-if2
+    add-depth
     mul-if2
     keep-requires
-    add-t18
     same-length
     returns
     returns-2

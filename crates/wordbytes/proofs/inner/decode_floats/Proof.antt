@@ -1,9 +1,10 @@
 use Prim.Native.Nat.{_/_}
 use lib.Seq.{getD-drop}
 use lib.Ieee.{ofBits}
+use Rattle.limits.specs.Limits.{maxReading}
 use Rattle.wordbytes.specs.Bytes.{floatsOf}
 use Rattle.wordbytes.specs.BytesLaws.{float-get, floats-length}
-use Rattle.wordbytes.proofs.Laws.{fill-turn, fill-done}
+use Rattle.wordbytes.proofs.Laws.{fill-turn, fill-done, in-range-no-nan}
 use lib.ListN.{length-set, length-drop}
 use mathlib.Core.Path.{_≡_, refl, sym, _∙_, ap}
 use mathlib.Core.List.{_++_}
@@ -30,8 +31,13 @@ add-word-at c = search needs
 word-at-requires : tie.Need-word-at-requires Inv-loop μ-loop
 word-at-requires c κs = search needs
 
-float-of-requires : tie.Need-float-of-requires Inv-loop μ-loop
-float-of-requires c κs = search needs
+float-from-bits-out : tie.Need-float-from-bits-out Inv-loop μ-loop
+float-from-bits-out c = let l = c .before .before in
+    let s = l .before .before .before in
+    let b = s .args .b .now in
+    let k = s .args .from + l .loop .i in
+    let n = floats-length b in
+    in-range-no-nan maxReading (floatsOf b) k _ (omega arith) (s .pre .1) (omega arith) (c .word-at .ok) (float-get b k (omega arith) ∙ ap (ofBits binary32) (sym (c .word-at .ensures)))
 
 mul-out : tie.Need-mul-out Inv-loop μ-loop
 mul-out c = search needs
@@ -46,13 +52,15 @@ loop-less : tie.Need-loop-less Inv-loop μ-loop
 loop-less c = search needs
 
 loop-again : tie.Need-loop-again Inv-loop μ-loop
-loop-again c = let b = c .before .before .before .before .before .before .args .b .now in
-    let from = c .before .before .before .before .before .before .args .from in
-    let i = c .before .before .before .loop .i in
+loop-again c = let q = c .before .before in
+    let s = q .before .before .before in
+    let b = s .args .b .now in
+    let from = s .args .from in
+    let i = q .loop .i in
     let l : length (floatsOf b) ≡ length b / 4 = floats-length b in
     let g : length (drop from (floatsOf b)) ≡ length b / 4 - from = rw (length-drop, l) in
-    let v : c .float-of .result ≡ getD (drop from (floatsOf b)) i nan = c .float-of .ensures ∙ ap (ofBits binary32) (c .before .word-at .ensures) ∙ sym (getD-drop from (floatsOf b) i nan ∙ float-get b (from + i) (omega arith)) in
-    (omega arith, rw length-set (c .before .before .before .loop .inv .1), fill-turn (drop from (floatsOf b)) (c .before .before .before .before .before .before .args .out .now) (c .before .before .before .loop .out) i nan _ (omega arith) (omega arith) (c .before .before .before .loop .inv .2) v)
+    let v : ofBits binary32 (c .word-at .result) ≡ getD (drop from (floatsOf b)) i nan = ap (ofBits binary32) (c .word-at .ensures) ∙ sym (getD-drop from (floatsOf b) i nan ∙ float-get b (from + i) (omega arith)) in
+    (omega arith, rw length-set (q .loop .inv .1), fill-turn (drop from (floatsOf b)) (s .args .out .now) (q .loop .out) i nan _ (omega arith) (omega arith) (q .loop .inv .2) v)
 
 same-length : tie.Need-same-length Inv-loop μ-loop
 same-length c = search needs
@@ -69,7 +77,7 @@ decode-floats-spec =
     loop-holds
     add-word-at
     word-at-requires
-    float-of-requires
+    float-from-bits-out
     mul-out
     slice-write-out
     add-i
