@@ -13,12 +13,11 @@ use Rattle.params.specs.declared.FrameBounds.{FrameBounds}
 use Rattle.params.specs.declared.WindowGroup.{WindowGroup}
 use Rattle.params.specs.declared.WindowGroup.the-variants.{Missing, Group}
 use Rattle.tof.specs.declared.TofScale.{TofScale}
-use Rattle.row.specs.Written.{Written, stride}
+use Rattle.row.specs.Written.{stride}
 use Rattle.grid.specs.Grid.{Grid, countTo, wordsTo}
 use Rattle.grid.specs.GridNumber.{gridChecks}
-use Rattle.grid.specs.Steps.{gridOf}
-use Rattle.wordbytes.specs.Bytes.{wordsOf, floatsOf, bytesOf}
-use Rattle.wordbytes.specs.BytesLaws.{bytes-append, bytes-length}
+use Rattle.wordbytes.specs.Bytes.{bytesOf}
+use Rattle.bytegrid.specs.ByteGrid.{asBytes}
 
 -- ---- the number
 
@@ -70,16 +69,7 @@ scaleOf least most step bins = record { «tof_min» = least; «tof_max» = most;
 abbrev pub paramsOf : Float → ℕ → ℕ → ImDetectParams
 paramsOf prom distance width = record { «min_prom» = prom; «min_distance_scans» = distance; «min_width_scans» = width }
 
--- the grid of lists in bytes
-abbrev pub entryGrid : ℕ → List ℕ → List ℕ → TofScale → FrameBounds → List ℕ → ImDetectParams → List ℕ → ℕ → Grid
-entryGrid cols used scans scale bounds mobility p weights first =
-    gridOf cols (floatsOf used) (wordsOf scans) scale bounds (floatsOf mobility) p (floatsOf weights) first
-
 -- ---- the answer
-
--- words written as four bytes each
-abbrev pub asBytes : Written
-asBytes = record { unit = 4; put = bytesOf; joined = bytes-append; long = bytes-length }
 
 -- The answer and the bytes that are left. Accepted, the records of all peaks stand at the front; refused, the bytes are as they
 -- were. `whole` says that the lists are whole words.

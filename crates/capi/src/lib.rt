@@ -1,6 +1,4 @@
 // Grid detection as a C function on numbers and byte slices.
-pub mod inner;
-
 use grid::inner::Seen;
 use params::FrameBounds;
 use params::ImDetectParams;
@@ -13,7 +11,8 @@ ghost use lib.ListN.{length};
 ghost use Rattle.smoothrow.specs.SmoothRow.{soundOrNone};
 ghost use Rattle.grid.specs.GridNumber.{seenIn};
 ghost use Rattle.wordbytes.specs.Bytes.{wordsOf, floatsOf};
-ghost use Rattle.capi.specs.Entry.{entryNumber, usedBytes, allWhole, groupOf, boundsOf, scaleOf, paramsOf, entryGrid, Answered};
+ghost use Rattle.capi.specs.Entry.{entryNumber, usedBytes, allWhole, groupOf, boundsOf, scaleOf, paramsOf, Answered};
+ghost use Rattle.bytegrid.specs.ByteGrid.{byteGrid};
 
 // ---- the numbers
 
@@ -67,7 +66,7 @@ fn call_number(
     first: PeakId,
     room: usize,
 ) -> u32
-    ensures { λ r. ⌜ r ≡ entryNumber (allWhole (length (now (used .entry))) (length (now (scans .entry))) (length (now (mobility .entry))) (length (now (weights .entry))) room) flag (entryGrid cols (now (used .entry)) (now (scans .entry)) scale bounds (now (mobility .entry)) p (now (weights .entry)) first) rows (room / 4) ⌝ }
+    ensures { λ r. ⌜ r ≡ entryNumber (allWhole (length (now (used .entry))) (length (now (scans .entry))) (length (now (mobility .entry))) (length (now (weights .entry))) room) flag (byteGrid cols (now (used .entry)) (now (scans .entry)) scale bounds (now (mobility .entry)) p (now (weights .entry)) first) rows (room / 4) ⌝ }
 {
     let whole = (used.len() % 4 == 0)
         & (scans.len() % 4 == 0)
@@ -100,7 +99,7 @@ fn answer(
     first: PeakId,
     out: &mut [u8],
 ) -> u64
-    ensures { λ r. ⌜ Answered (allWhole (length (now (used .entry))) (length (now (scans .entry))) (length (now (mobility .entry))) (length (now (weights .entry))) (length (now (out .entry)))) flag (entryGrid cols (now (used .entry)) (now (scans .entry)) scale bounds (now (mobility .entry)) p (now (weights .entry)) first) rows (now (out .entry)) (now (out .exit)) r ⌝ }
+    ensures { λ r. ⌜ Answered (allWhole (length (now (used .entry))) (length (now (scans .entry))) (length (now (mobility .entry))) (length (now (weights .entry))) (length (now (out .entry)))) flag (byteGrid cols (now (used .entry)) (now (scans .entry)) scale bounds (now (mobility .entry)) p (now (weights .entry)) first) rows (now (out .entry)) (now (out .exit)) r ⌝ }
 {
     let no = call_number(
         rows,
@@ -117,7 +116,7 @@ fn answer(
         out.len(),
     );
     if no == 0 {
-        let n = inner::detect_bytes(
+        let n = bytegrid::sized::detect_bytes(
             0,
             rows,
             cols,
@@ -176,7 +175,7 @@ pub extern "C" fn rubzolena_detect_im_peaks(
     ensures { λ r. ⌜ Answered
         (allWhole (length (usedBytes (now («data_raw» .entry)) (now («data» .entry)))) (length (now (scans .entry))) (length (now (mobility .entry))) (length (now (weights .entry))) (length (now (out .entry))))
         «group_flag»
-        (entryGrid cols (usedBytes (now («data_raw» .entry)) (now («data» .entry))) (now (scans .entry)) (scaleOf «tof_min» «tof_max» «tof_step» «num_bins») (boundsOf «rt_lo» «rt_hi» «frame_id_lo» «frame_id_hi» «group_flag» «window_group») (now (mobility .entry)) (paramsOf «min_prom» «min_distance_scans» «min_width_scans») (now (weights .entry)) first)
+        (byteGrid cols (usedBytes (now («data_raw» .entry)) (now («data» .entry))) (now (scans .entry)) (scaleOf «tof_min» «tof_max» «tof_step» «num_bins») (boundsOf «rt_lo» «rt_hi» «frame_id_lo» «frame_id_hi» «group_flag» «window_group») (now (mobility .entry)) (paramsOf «min_prom» «min_distance_scans» «min_width_scans») (now (weights .entry)) first)
         rows (now (out .entry)) (now (out .exit)) r ⌝ }
 {
     let scale = TofScale {

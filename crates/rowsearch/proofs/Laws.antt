@@ -373,7 +373,7 @@ abbrev pub restOf : ℕ → List ℕ → List ℕ
 restOf m l = take (length l - m) (drop m l)
 
 pub rest-length : (m : ℕ) (l : List ℕ) → length (restOf m l) ≡ length l - m
-rest-length m l = length-take-le (length l - m) (drop m l) (rw length-drop (omega arith)) 
+rest-length m l = length-take-le (length l - m) (drop m l) (rw length-drop (omega arith))
 
 module _ (l p : List ℕ) (m : ℕ) (fits : m ≤ length l) where
   pub put-front : (j : ℕ) → j < m → getD (putMid m (length l - m) l p) j 0 ≡ getD l j 0

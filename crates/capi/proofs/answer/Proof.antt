@@ -1,8 +1,10 @@
 use Prim.Native.Nat.{_/_}
 use Rattle.grid.specs.Grid.{Grid}
-use Rattle.capi.specs.Entry.{entryGrid, allWhole, entryNumber}
-use Rattle.capi.specs.Steps.{Fit}
-use Rattle.capi.proofs.Laws.{entry-zero, fit, count-fits, accepted, refused}
+use Rattle.capi.specs.Entry.{allWhole, entryNumber}
+use Rattle.bytegrid.specs.ByteGrid.{byteGrid}
+use Rattle.bytegrid.specs.ByteGrid.{Fit}
+use Rattle.capi.proofs.Laws.{entry-zero, fit, accepted, refused}
+use Rattle.bytegrid.proofs.Laws.{count-fits}
 use mathlib.Core.Path.{_≡_, sym, _∙_}
 use mathlib.Core.Bool.{Bool}
 use Prim.Native.Nat.{ℕ}
@@ -14,7 +16,7 @@ use Rattle.capi.proofs.answer.Tie as tie
 
 -- the grid of the arguments, and whether they are whole words
 abbrev gridAt : (s : tie.Start) → Grid
-gridAt s = entryGrid (s .args .cols) (s .args .used .now) (s .args .scans .now) (s .args .scale) (s .args .bounds) (s .args .mobility .now) (s .args .p) (s .args .weights .now) (s .args .first)
+gridAt s = byteGrid (s .args .cols) (s .args .used .now) (s .args .scans .now) (s .args .scale) (s .args .bounds) (s .args .mobility .now) (s .args .p) (s .args .weights .now) (s .args .first)
 
 abbrev whole : (s : tie.Start) → Bool
 whole s = allWhole (length (s .args .used .now)) (length (s .args .scans .now)) (length (s .args .mobility .now)) (length (s .args .weights .now)) (length (s .args .out .now))

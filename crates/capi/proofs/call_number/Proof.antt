@@ -7,7 +7,8 @@ use lib.ListN.{length}
 use Rattle.grid.specs.Grid.{Grid}
 use Rattle.grid.specs.GridNumber.{gridNumber}
 use Rattle.grid.proofs.Laws.{seen-number}
-use Rattle.capi.specs.Entry.{entryNumber, allWhole, entryGrid}
+use Rattle.capi.specs.Entry.{entryNumber, allWhole}
+use Rattle.bytegrid.specs.ByteGrid.{byteGrid}
 use Rattle.capi.proofs.Laws.{entry-is}
 use Rattle.capi.proofs.call_number.Statement.{statement}
 use Rattle.capi.proofs.call_number.Tie as tie
@@ -17,7 +18,7 @@ abbrev whole : (s : tie.Start) → Bool
 whole s = allWhole (length (s .args .used .now)) (length (s .args .scans .now)) (length (s .args .mobility .now)) (length (s .args .weights .now)) (s .args .room)
 
 abbrev gridAt : (s : tie.Start) → Grid
-gridAt s = entryGrid (s .args .cols) (s .args .used .now) (s .args .scans .now) (s .args .scale) (s .args .bounds) (s .args .mobility .now) (s .args .p) (s .args .weights .now) (s .args .first)
+gridAt s = byteGrid (s .args .cols) (s .args .used .now) (s .args .scans .now) (s .args .scale) (s .args .bounds) (s .args .mobility .now) (s .args .p) (s .args .weights .now) (s .args .first)
 
 returns : tie.Need-returns
 returns c = rw (entry-is, not-true (whole (c .before .before .before .before .before)) (c .if1 .taken))

@@ -1,0 +1,2 @@
+-- The definitions that the contracts of `bytegrid` cite.
+pub mod ByteGrid
