@@ -1,2 +1,3 @@
 -- What the proofs of `area` share.
 pub mod Laws
+pub mod AreaLaws

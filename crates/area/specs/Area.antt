@@ -1,6 +1,5 @@
 -- The area under the straight lines that join the readings, between two places x0 and x1 given in samples. Segment s runs
 -- from sample s to sample s + 1. Every operation is rounded once, in this order.
-use mathlib.Core.Path.{_≡_, refl}
 use mathlib.Core.Bool.{cond, not, _&&_}
 use mathlib.Core.List.{List, [], _∷_}
 use mathlib.Core.Option.{none, some}
@@ -71,10 +70,6 @@ areaChecks y x0 x1 =
 
 unfoldable pub areaNumber : List Float → Float → Float → ℕ
 areaNumber y x0 x1 = firstOf (areaChecks y x0 x1)
-
-pub number-is : (y : List Float) (x0 x1 : Float) → areaNumber y x0 x1 ≡ firstOf (areaChecks y x0 x1)
-unfolding areaNumber
-number-is y x0 x1 = refl
 
 -- what its answers say
 abbrev pub areaSays : AreaAnswer → Says Float

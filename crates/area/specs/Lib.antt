@@ -1,4 +1,3 @@
 -- The definitions that the contracts of `area` cite, what follows of them, and worked cases.
 pub mod Area
-pub mod AreaLaws
 pub mod Cases

@@ -10,7 +10,7 @@ use borrow.Rule.Slice.PartMut.{putMid}
 use lib.Dec.{eqb}
 use lib.ListN.{length, take, drop, drop-of-length-le}
 use lib.Ieee.{Float, binary32, ofBits}
-use Rattle.refusal.specs.Bools.{all4}
+use Rattle.refusal.proofs.Bools.{all4}
 use Rattle.limits.specs.Limits.{maxReading, maxWeight}
 use Rattle.numeric.specs.Arith.{𝟎}
 use Rattle.numeric.specs.Numeric.{allInRange}
@@ -29,7 +29,7 @@ use Rattle.grid.specs.Steps.{numbered, Done}
 use Rattle.grid.proofs.Laws.{count-bound}
 use Rattle.grid.proofs.Laws as grid
 use Rattle.wordbytes.specs.Bytes.{wordAt, wordsOf, floatsOf, bytesOf}
-use Rattle.wordbytes.specs.BytesLaws.{words-length, word-get, floats-length, float-get}
+use Rattle.wordbytes.proofs.BytesLaws.{words-length, word-get, floats-length, float-get}
 use Rattle.bytegrid.specs.ByteGrid.{asBytes}
 use Rattle.bytegrid.specs.ByteGrid.{Fit}
 

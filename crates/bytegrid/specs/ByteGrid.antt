@@ -9,7 +9,7 @@ use Rattle.row.specs.Written.{Written}
 use Rattle.grid.specs.Grid.{Grid}
 use Rattle.grid.specs.Steps.{gridOf, Ready}
 use Rattle.wordbytes.specs.Bytes.{wordsOf, floatsOf, bytesOf}
-use Rattle.wordbytes.specs.BytesLaws.{bytes-append, bytes-length}
+use Rattle.wordbytes.proofs.BytesLaws.{bytes-append, bytes-length}
 
 -- words written as four bytes each
 abbrev pub asBytes : Written

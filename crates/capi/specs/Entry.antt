@@ -1,13 +1,12 @@
 -- What the C entry of grid detection answers: 64 times the count of peaks, and the number.
-use mathlib.Core.Path.{_≡_, refl}
+use mathlib.Core.Path.{_≡_}
 use mathlib.Core.Bool.{Bool, cond, not, _&&_, _||_}
 use mathlib.Core.List.{List, [], _∷_, _++_}
-use Prim.Native.Nat.{ℕ, _*_, _/_, _%_, _<_}
+use Prim.Native.Nat.{ℕ, _*_, _/_, _%_}
 use lib.Dec.{ltb, eqb}
 use lib.ListN.{length, drop}
 use lib.Ieee.{Float}
-use Rattle.refusal.specs.Refusal.{Check, firstOf, ascendingFrom, Lowest}
-use Rattle.refusal.specs.RefusalLaws.{lowest}
+use Rattle.refusal.specs.Refusal.{Check, firstOf}
 use Rattle.params.specs.declared.ImDetectParams.{ImDetectParams}
 use Rattle.params.specs.declared.FrameBounds.{FrameBounds}
 use Rattle.params.specs.declared.WindowGroup.{WindowGroup}
@@ -33,12 +32,6 @@ entryChecks whole flag g rows room = also 1 (not whole) (also 4 (ltb 1 flag) (gr
 
 unfoldable pub entryNumber : Bool → ℕ → Grid → ℕ → ℕ → ℕ
 entryNumber whole flag g rows room = firstOf (entryChecks whole flag g rows room)
-
--- it is the lowest that applies
-pub entry-lowest : (whole : Bool) (flag : ℕ) (g : Grid) (rows room : ℕ) → 0 < entryNumber whole flag g rows room
-    → Lowest (entryChecks whole flag g rows room) (entryNumber whole flag g rows room)
-unfolding entryNumber also ascendingFrom
-entry-lowest whole flag g rows room h = lowest 0 (entryChecks whole flag g rows room) refl h
 
 abbrev pub entryAnswer : ℕ → ℕ → ℕ
 entryAnswer number count = cond (eqb number 0) (count * 64) number

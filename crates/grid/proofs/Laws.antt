@@ -13,8 +13,8 @@ use lib.ListN.{length, take, drop, length-drop, length-take, length-append}
 use lib.Seq.{take-at, drop-at, length-take-le, drop-drop}
 use lib.Ieee.{Float}
 use Rattle.refusal.specs.Refusal.{firstOf}
-use Rattle.refusal.specs.AnswersLaws.{says-number, says-values}
-use Rattle.refusal.specs.Bools.{clash, both, all3, all4, all5, neither}
+use Rattle.refusal.proofs.AnswersLaws.{says-number, says-values}
+use Rattle.refusal.proofs.Bools.{clash, both, all3, all4, all5, neither}
 use Rattle.numeric.specs.Numeric.{allInRange}
 use Rattle.numeric.proofs.Patterns.{all-take, all-drop}
 use Rattle.record.specs.Record.{size}
@@ -25,11 +25,11 @@ use Rattle.params.specs.declared.RowPlace.{RowPlace}
 use Rattle.params.specs.declared.FrameBounds.{FrameBounds}
 use Rattle.smoothing.specs.Smoothing.{normalised, soundWeights}
 use Rattle.rowsearch.specs.Qualifying.{kept}
-use Rattle.rowsearch.specs.QualifyingLaws.{kept-count}
+use Rattle.rowsearch.proofs.QualifyingLaws.{kept-count}
 use Rattle.smoothrow.specs.SmoothRow.{searched, soundOrNone}
 use Rattle.smoothrow.proofs.Laws.{searched-length}
 use Rattle.row.specs.Row.{rowWords}
-use Rattle.row.specs.RowWords.{row-words-length}
+use Rattle.row.proofs.RowWords.{row-words-length}
 use Rattle.row.specs.Written.{Written, asWords, stride}
 use Rattle.row.specs.Steps as row
 use Rattle.row.proofs.Laws.{put-none, put-length}
@@ -37,7 +37,7 @@ use Rattle.row.proofs.Laws as rows
 use Rattle.tof.specs.Tof.{rowPlace, soundStep, soundEnds, agreeing}
 use Rattle.grid.specs.Grid.{Grid, usedOf, rowOf, searchedOf, listedIn, wordsIn, countFrom, wordsFrom, countTo, wordsTo}
 use Rattle.grid.specs.GridNumber.{seenIn, checksOf, gridNumber}
-use Rattle.grid.specs.GridNumberLaws.{none-for}
+use Rattle.grid.proofs.GridNumberLaws.{none-for}
 use Rattle.grid.specs.declared.inner.Seen.{Seen}
 use Rattle.grid.specs.declared.GridAnswer.the-variants.{Peaks, Refused}
 use Rattle.grid.specs.Steps.{Handed, Listed, Lent, RowReady, RowDone, Ready, Done, Answered, numberFor, numbered}

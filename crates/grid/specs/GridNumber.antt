@@ -1,5 +1,4 @@
 -- Which number of document 01 a grid is answered with, 0 for none.
-use mathlib.Core.Path.{_≡_, refl}
 use mathlib.Core.Bool.{not, _&&_, _||_}
 use mathlib.Core.List.{List, [], _∷_}
 use mathlib.Core.Option.{none, some}
@@ -68,10 +67,6 @@ gridChecks g rows room scratch =
 
 unfoldable pub gridNumber : Grid → ℕ → ℕ → ℕ → ℕ
 gridNumber g rows room scratch = firstOf (gridChecks g rows room scratch)
-
-pub number-is : (g : Grid) (rows room scratch : ℕ) → gridNumber g rows room scratch ≡ firstOf (gridChecks g rows room scratch)
-unfolding gridNumber
-number-is g rows room scratch = refl
 
 -- what an answer says: the count of peaks, or the number that applies
 abbrev pub gridSays : GridAnswer → Says ℕ

@@ -1,6 +1,5 @@
 -- The definitions that the contracts of `grid` cite, and worked cases of them.
 pub mod Grid
 pub mod GridNumber
-pub mod GridNumberLaws
 pub mod Steps
 pub mod GridCases

@@ -15,7 +15,7 @@ use Rattle.numeric.specs.Arith.{at}
 use Rattle.numeric.specs.Plain.{AllFit}
 use Rattle.record.specs.declared.ImPeak1D.{ImPeak1D}
 use Rattle.record.specs.Record.{size, peakAt}
-use Rattle.record.specs.RoundTrip.{own-words}
+use Rattle.record.proofs.RoundTrip.{own-words}
 use Rattle.smoothrow.proofs.Laws.{searched-fits}
 use Rattle.rowlaws.specs.RowRecords.{nth}
 use Rattle.rowlaws.proofs.RowRecords.{bears, record-at, kept-ascend}

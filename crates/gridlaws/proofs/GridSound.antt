@@ -11,8 +11,8 @@ use lib.ListN.{length, drop, length-drop}
 use lib.Seq.{length-take-le}
 use lib.Ieee.{Float}
 use Rattle.refusal.specs.Refusal.{firstOf, ascendingFrom}
-use Rattle.refusal.specs.RefusalLaws.{appliesFor, off-for}
-use Rattle.refusal.specs.Bools.{both, all4, all5}
+use Rattle.refusal.proofs.RefusalLaws.{appliesFor, off-for}
+use Rattle.refusal.proofs.Bools.{both, all4, all5}
 use Rattle.limits.specs.Limits.{maxReading, maxHeight, maxMobility, maxScan, maxSamples, lastRow, identities}
 use Rattle.numeric.specs.Numeric.{allInRange}
 use Rattle.numeric.specs.Plain.{AllFit}
@@ -27,7 +27,7 @@ use Rattle.rowlaws.specs.RowSound as row
 use Rattle.rowlaws.proofs.RowRecords.{one-of}
 use Rattle.rowlaws.proofs.RowSound.{peaks-sound}
 use Rattle.tof.specs.Tof.{rowPlace}
-use Rattle.tof.specs.TofLaws.{row-held}
+use Rattle.tof.proofs.TofLaws.{row-held}
 use Rattle.grid.specs.Grid.{Grid, rowOf, searchedOf, listedIn, countTo, wordsTo}
 use Rattle.grid.specs.GridNumber.{gridChecks, gridNumber}
 use Rattle.grid.specs.Steps.{Ready}

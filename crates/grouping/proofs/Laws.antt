@@ -12,7 +12,7 @@ use Rattle.merging.specs.Merging.{merged}
 use Rattle.ordering.specs.declared.inner.KeyRule.{KeyRule}
 use Rattle.grouping.specs.declared.inner.Open.{Open}
 use Rattle.grouping.specs.Grouping.{peaksAt, follows, groupsFrom, groups, mergedWords, groupWords, numbered, marked}
-use Rattle.grouping.specs.GroupingLaws.{groups-join, groups-close, words-length, words-append}
+use Rattle.grouping.proofs.GroupingLaws.{groups-join, groups-close, words-length, words-append}
 use Rattle.grouping.specs.Walk.{Opens}
 
 -- ---- lists

@@ -1,6 +1,4 @@
 -- The definitions that the contracts of `grouping` cite, what holds of them, and worked cases.
 pub mod Cases
-pub mod GroupedPeaks
 pub mod Grouping
-pub mod GroupingLaws
 pub mod Walk

@@ -1,2 +1,3 @@
 -- The laws that the proofs of `matching` cite.
 pub mod Laws
+pub mod KeyLaws

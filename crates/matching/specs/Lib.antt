@@ -2,5 +2,4 @@
 pub mod Matching
 pub mod Group
 pub mod Keys
-pub mod KeyLaws
 pub mod Cases

@@ -2,5 +2,4 @@
 pub mod Merging
 pub mod MergingCases
 pub mod MergingLaws
-pub mod MergingWeights
 pub mod Walk

@@ -1,28 +1,10 @@
--- What is known of a merged peak: its bounds are the extremes of the members' bounds, its identity is the least of the members',
--- and extremes of extremes are the extremes of all the members. Assumes nothing.
-use mathlib.Core.Path.{_≡_, refl, sym, _∙_}
-use mathlib.Core.Bool.{Bool, true, false}
-use mathlib.Core.List.{List, [], _∷_, _++_, map, flatten, append-nil, foldl, foldl-append, List·Memᴰ, List·Memᴰ·head, List·Memᴰ·tail, List·Memᴰ·not-nil, List·Memᴰ·cases-cons, List·Memᴰ·eq-of-singleton}
-use mathlib.Core.Logic.{_⊎_, inl, inr, ⊎-elim}
-use Prim.Native.Nat.{ℕ, _≤_, min, max}
-use native.Mathlib.Nat.{min-eq-left, min-eq-right, max-eq-left, max-eq-right}
-use native.Mathlib.Omega.{arith}
-use borrow.Author.Tests.{ltb-true, ltb-false}
-use lib.Dec.{ltb}
-use Rattle.numeric.proofs.Laws.{clash}
+-- What is known of a merged peak.
+use mathlib.Core.Path.{_≡_}
+use mathlib.Core.Bool.{true}
+use mathlib.Core.List.{List, List·Memᴰ}
+use Prim.Native.Nat.{ℕ}
 use Rattle.record.specs.declared.ImPeak1D.{ImPeak1D}
-use Rattle.merging.specs.Merging.{extreme, lowest, highest, isAny, merged}
-
--- ---- extremes, the lowest and the highest alike
-
--- A choice of one of two numbers: it goes before both, in the sense of an order, and further choices may be made in any grouping.
-record Choice (pick : ℕ → ℕ → ℕ) (Before : ℕ → ℕ → Type 0) : Type 0 where
-  first : (a b : ℕ) → Before (pick a b) a
-  second : (a b : ℕ) → Before (pick a b) b
-  same : (a : ℕ) → Before a a
-  chain : (a b c : ℕ) → Before a b → Before b c → Before a c
-  either : (a b : ℕ) → (pick a b ≡ a) ⊎ (pick a b ≡ b)
-  grouped : (a b c : ℕ) → pick (pick a b) c ≡ pick a (pick b c)
+use Rattle.merging.specs.Merging.{isAny}
 
 -- a member of a group that has a value of a field
 pub record Has (f : ImPeak1D → ℕ) (n : ℕ) (ps : List ImPeak1D) : Type 0 where
@@ -30,109 +12,9 @@ pub record Has (f : ImPeak1D → ℕ) (n : ℕ) (ps : List ImPeak1D) : Type 0 wh
   pub member : List·Memᴰ peak ps
   pub value : n ≡ f peak
 
-any-append : (ps qs : List ImPeak1D) → isAny ps ≡ true → isAny (ps ++ qs) ≡ true
-unfolding isAny
-any-append [] qs h = clash false h refl
-any-append (p ∷ ps) qs h = refl
-
 -- groups that have a peak each
 abbrev pub AllAny : List (List ImPeak1D) → Type 0
 AllAny gs = (g : List ImPeak1D) → List·Memᴰ g gs → isAny g ≡ true
-
-module _ (pick : ℕ → ℕ → ℕ) (Before : ℕ → ℕ → Type 0) (choice : Choice pick Before) (f : ImPeak1D → ℕ) where
-  from-two : (a b : ℕ) (ps : List ImPeak1D) → foldl (λ so q. pick so (f q)) (pick a b) ps ≡ pick a (foldl (λ so q. pick so (f q)) b ps)
-  from-two a b [] = refl
-  from-two a b (p ∷ ps) = rw (choice .grouped a b (f p)) (from-two a (pick b (f p)) ps)
-
-  extreme-cons : (p q : ImPeak1D) (ps : List ImPeak1D) → extreme pick f (p ∷ q ∷ ps) ≡ pick (f p) (extreme pick f (q ∷ ps))
-  unfolding extreme
-  extreme-cons p q ps = from-two (f p) (f q) ps
-
-  extreme-append : (ps qs : List ImPeak1D) → isAny ps ≡ true → isAny qs ≡ true → extreme pick f (ps ++ qs) ≡ pick (extreme pick f ps) (extreme pick f qs)
-  unfolding extreme isAny
-  extreme-append [] qs h k = clash false h refl
-  extreme-append (p ∷ ps) [] h k = clash false k refl
-  extreme-append (p ∷ ps) (q ∷ qs) h k = foldl-append (λ so r. pick so (f r)) (f p) ps (q ∷ qs) ∙ from-two (foldl (λ so r. pick so (f r)) (f p) ps) (f q) qs
-
-  extreme-before : (p : ImPeak1D) (ps : List ImPeak1D) → List·Memᴰ p ps → Before (extreme pick f ps) (f p)
-  unfolding extreme
-  extreme-before p [] m = absurd (List·Memᴰ·not-nil m)
-  extreme-before p (q ∷ []) m = rw (List·Memᴰ·eq-of-singleton m) (choice .same (f q))
-  extreme-before p (q ∷ r ∷ ps) m =
-      let rest = extreme pick f (r ∷ ps) in
-      let later : List·Memᴰ p (r ∷ ps) → Before (pick (f q) rest) (f p) = λ n. choice .chain (pick (f q) rest) rest (f p) (choice .second (f q) rest) (extreme-before p (r ∷ ps) n) in
-      rw (extreme-cons q r ps) (⊎-elim (λ (e : p ≡ q). rw e (choice .first (f q) rest)) later (List·Memᴰ·cases-cons m))
-
-  one-cons : (p q : ImPeak1D) (ps : List ImPeak1D) → Has f (extreme pick f (q ∷ ps)) (q ∷ ps)
-      → (pick (f p) (extreme pick f (q ∷ ps)) ≡ f p) ⊎ (pick (f p) (extreme pick f (q ∷ ps)) ≡ extreme pick f (q ∷ ps))
-      → Has f (extreme pick f (p ∷ q ∷ ps)) (p ∷ q ∷ ps)
-  one-cons p q ps rest (inl e) = record { peak = p; member = List·Memᴰ·head refl; value = extreme-cons p q ps ∙ e }
-  one-cons p q ps rest (inr e) = record { peak = rest .peak; member = List·Memᴰ·tail (rest .member); value = extreme-cons p q ps ∙ e ∙ rest .value }
-
-  extreme-one : (ps : List ImPeak1D) → isAny ps ≡ true → Has f (extreme pick f ps) ps
-  unfolding extreme isAny
-  extreme-one [] h = clash false h refl
-  extreme-one (p ∷ []) h = record { peak = p; member = List·Memᴰ·head refl; value = refl }
-  extreme-one (p ∷ q ∷ ps) h = one-cons p q ps (extreme-one (q ∷ ps) refl) (choice .either (f p) (extreme pick f (q ∷ ps)))
-
-  -- groups of which each has been made one peak that has the group's extreme
-  extreme-groups : (one : List ImPeak1D → ImPeak1D) → ((ps : List ImPeak1D) → f (one ps) ≡ extreme pick f ps)
-      → (gs : List (List ImPeak1D)) → AllAny gs → extreme pick f (map one gs) ≡ extreme pick f (flatten gs)
-  unfolding extreme flatten
-  extreme-groups one has [] h = refl
-  extreme-groups one has (g ∷ []) h = rw append-nil (has g)
-  extreme-groups one has (g ∷ k ∷ gs) h =
-      let rest : AllAny (k ∷ gs) = λ l m. h l (List·Memᴰ·tail m) in
-      extreme-cons (one g) (one k) (map one gs) ∙ rw (has g, extreme-groups one has (k ∷ gs) rest) (sym (extreme-append g (k ++ flatten gs) (h g (List·Memᴰ·head refl)) (any-append k (flatten gs) (h k (List·Memᴰ·tail (List·Memᴰ·head refl))))))
-
-order : (a b : ℕ) → (a ≤ b) ⊎ (b ≤ a)
-order a b = go (ltb a b) refl
-  where
-    go : (t : Bool) → ltb a b ≡ t → (a ≤ b) ⊎ (b ≤ a)
-    go true e = inl (omega (arith, ltb-true a b e))
-    go false e = inr (ltb-false a b e)
-
-lowest-choice : Choice min (λ a b. a ≤ b)
-lowest-choice = record {
-  first = λ a b. omega arith;
-  second = λ a b. omega arith;
-  same = λ a. omega arith;
-  chain = λ a b c p q. omega arith;
-  either = λ a b. ⊎-elim (λ (h : a ≤ b). inl (min-eq-left h)) (λ (h : b ≤ a). inr (min-eq-right h)) (order a b);
-  grouped = λ a b c. omega arith;
-}
-
-highest-choice : Choice max (λ a b. b ≤ a)
-highest-choice = record {
-  first = λ a b. omega arith;
-  second = λ a b. omega arith;
-  same = λ a. omega arith;
-  chain = λ a b c p q. omega arith;
-  either = λ a b. ⊎-elim (λ (h : a ≤ b). inr (max-eq-right h)) (λ (h : b ≤ a). inl (max-eq-left h)) (order a b);
-  grouped = λ a b c. omega arith;
-}
-
--- No member is below the lowest, some member has it, and of two lists together it is the lower of the two; likewise the highest.
-module _ (f : ImPeak1D → ℕ) where
-  pub lowest-below : (p : ImPeak1D) (ps : List ImPeak1D) → List·Memᴰ p ps → lowest f ps ≤ f p
-  lowest-below p ps m = extreme-before min _ lowest-choice f p ps m
-
-  pub lowest-one : (ps : List ImPeak1D) → isAny ps ≡ true → Has f (lowest f ps) ps
-  lowest-one ps h = extreme-one min _ lowest-choice f ps h
-
-  pub lowest-append : (ps qs : List ImPeak1D) → isAny ps ≡ true → isAny qs ≡ true → lowest f (ps ++ qs) ≡ min (lowest f ps) (lowest f qs)
-  lowest-append ps qs h k = extreme-append min _ lowest-choice f ps qs h k
-
-  pub highest-above : (p : ImPeak1D) (ps : List ImPeak1D) → List·Memᴰ p ps → f p ≤ highest f ps
-  highest-above p ps m = extreme-before max _ highest-choice f p ps m
-
-  pub highest-one : (ps : List ImPeak1D) → isAny ps ≡ true → Has f (highest f ps) ps
-  highest-one ps h = extreme-one max _ highest-choice f ps h
-
-  pub highest-append : (ps qs : List ImPeak1D) → isAny ps ≡ true → isAny qs ≡ true → highest f (ps ++ qs) ≡ max (highest f ps) (highest f qs)
-  highest-append ps qs h k = extreme-append max _ highest-choice f ps qs h k
-
--- ---- the merged peak
 
 -- the five pairs of bounds of a peak: in TOF, in retention frames and their identities, in scans and in absolute scans
 pub data Bound : Type 0 where
@@ -155,35 +37,3 @@ high retention p = p .«rt_hi»
 high frame p = p .«frame_id_hi»
 high scan p = p .right
 high absolute p = p .«right_abs»
-
--- Its bounds are the extremes of the members' bounds, and its identity is the least of theirs.
-pub merged-low : (b : Bound) (ps : List ImPeak1D) → low b (merged ps) ≡ lowest (low b) ps
-unfolding merged low
-merged-low tof ps = refl
-merged-low retention ps = refl
-merged-low frame ps = refl
-merged-low scan ps = refl
-merged-low absolute ps = refl
-
-pub merged-high : (b : Bound) (ps : List ImPeak1D) → high b (merged ps) ≡ highest (high b) ps
-unfolding merged high
-merged-high tof ps = refl
-merged-high retention ps = refl
-merged-high frame ps = refl
-merged-high scan ps = refl
-merged-high absolute ps = refl
-
-pub merged-id : (ps : List ImPeak1D) → merged ps .id ≡ lowest (λ p. p .id) ps
-unfolding merged
-merged-id ps = refl
-
--- Of groups that are merged, and the merged peaks merged once more, it has the extremes and the least identity of all the members.
-module _ (gs : List (List ImPeak1D)) (some : AllAny gs) where
-  pub twice-low : (b : Bound) → low b (merged (map merged gs)) ≡ lowest (low b) (flatten gs)
-  twice-low b = merged-low b (map merged gs) ∙ extreme-groups min _ lowest-choice (low b) merged (merged-low b) gs some
-
-  pub twice-high : (b : Bound) → high b (merged (map merged gs)) ≡ highest (high b) (flatten gs)
-  twice-high b = merged-high b (map merged gs) ∙ extreme-groups max _ highest-choice (high b) merged (merged-high b) gs some
-
-  pub twice-id : merged (map merged gs) .id ≡ lowest (λ p. p .id) (flatten gs)
-  twice-id = merged-id (map merged gs) ∙ extreme-groups min _ lowest-choice (λ p. p .id) merged merged-id gs some

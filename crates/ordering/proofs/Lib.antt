@@ -1,2 +1,3 @@
 -- The laws that the proofs of `ordering` cite.
 pub mod Laws
+pub mod OrderingLaws

@@ -1,4 +1,3 @@
 -- The definitions that the contracts of `ordering` cite, what holds of them, and worked cases.
 pub mod Ordering
-pub mod OrderingLaws
 pub mod Cases

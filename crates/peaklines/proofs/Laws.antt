@@ -15,7 +15,7 @@ use Rattle.rowsearch.specs.Found.{oldest, Searchable}
 use Rattle.rowsearch.proofs.Laws.{Next}
 use Rattle.row.specs.Row.{peakOf}
 use Rattle.table.specs.Print.{peakLine}
-use Rattle.table.specs.Facts.{line-most}
+use Rattle.table.proofs.Facts.{line-most}
 use Rattle.peaklines.specs.RowLines.{placeOf, noFrames, linesOf, Ready, Printed}
 
 -- a line has at most 92 bytes

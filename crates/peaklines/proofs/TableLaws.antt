@@ -18,10 +18,11 @@ use Rattle.table.specs.declared.RowsSoFar.{RowsSoFar}
 use Rattle.table.specs.declared.Verdict.{Verdict}
 use Rattle.table.specs.declared.RowText.{RowText}
 use Rattle.table.specs.Text.{fields, value, allNumbers, readings, isRow, rowText, paramsOf}
-use Rattle.table.specs.Table.{verdict, isNext, counted}
+use Rattle.table.specs.Print.{refusal}
+use Rattle.table.specs.Table.{verdict, isNext, counted, atLine, printedFrom}
 use Rattle.table.proofs.Laws.{push, row-counted, row-text, never-row}
 use Rattle.table.proofs.Readings.{readings-range}
-use Rattle.peaklines.specs.TableText.{scans, lineText, textOf, peaksText, Sound}
+use Rattle.peaklines.specs.TableText.{scans, lineText, textOf, peaksText, Sound, behindLine}
 
 -- ---- scans
 pub scans-length : (n : ℕ) → length (scans n) ≡ n
@@ -112,3 +113,14 @@ line-text s line row row₀ Verdict.Refused e f = refl
 pub text-fits : (x out last : List ℕ) (k : ℕ) → k ≡ length x → last ≡ x ++ drop k out → length last ≡ length out → k ≤ length out
 text-fits x out last k e l h =
     let m : length last ≡ length x + (length out - k) = ap length l ∙ simp (length-append, length-drop) in omega arith
+
+-- the table is what its lines give, one after another, as far as the first refusal
+pub line-by-line : (s : Progress) (line : List ℕ) (more : List (List ℕ))
+    → printedFrom peaksText s (line ∷ more) ≡ lineText line (verdict s line) ++ behindLine (verdict s line) more
+unfolding printedFrom
+line-by-line s line more = go (verdict s line)
+  where
+    go : (v : Verdict) → atLine peaksText line v (λ t. printedFrom peaksText t more) ≡ lineText line v ++ behindLine v more
+    go (Verdict.Heading t) = refl
+    go (Verdict.Row t) = refl
+    go Verdict.Refused = sym (append-nil refusal)

@@ -1,7 +1,7 @@
 -- The text of the table: what is printed for each line that is read. Scans count from 0.
-use mathlib.Core.Path.{_≡_, refl, sym}
+use mathlib.Core.Path.{_≡_}
 use mathlib.Core.Bool.{true}
-use mathlib.Core.List.{List, [], _∷_, _++_, append-nil}
+use mathlib.Core.List.{List, [], _∷_, _++_}
 use Prim.Native.Nat.{ℕ, zero, suc, _-_, _≤_}
 use lib.ListN.{length, take}
 use lib.Ieee.{Float}
@@ -14,7 +14,7 @@ use Rattle.table.specs.declared.RowsSoFar.{RowsSoFar}
 use Rattle.table.specs.declared.Verdict.{Verdict}
 use Rattle.table.specs.Print.{heading, refusal}
 use Rattle.table.specs.Text.{readings}
-use Rattle.table.specs.Table.{verdict, atLine, printedFrom, table}
+use Rattle.table.specs.Table.{printedFrom, table}
 use Rattle.peaklines.specs.RowLines.{rowLines}
 
 -- the scans of n samples
@@ -58,13 +58,3 @@ abbrev pub behindLine : Verdict → List (List ℕ) → List ℕ
 behindLine (Verdict.Heading s) more = printedFrom peaksText (Progress.Rows s) more
 behindLine (Verdict.Row s) more = printedFrom peaksText (Progress.Rows s) more
 behindLine Verdict.Refused more = []
-
-pub line-by-line : (s : Progress) (line : List ℕ) (more : List (List ℕ))
-    → printedFrom peaksText s (line ∷ more) ≡ lineText line (verdict s line) ++ behindLine (verdict s line) more
-unfolding printedFrom
-line-by-line s line more = go (verdict s line)
-  where
-    go : (v : Verdict) → atLine peaksText line v (λ t. printedFrom peaksText t more) ≡ lineText line v ++ behindLine v more
-    go (Verdict.Heading t) = refl
-    go (Verdict.Row t) = refl
-    go Verdict.Refused = sym (append-nil refusal)

@@ -8,7 +8,7 @@ use lib.ListN.{length, drop, take, length-drop, drop-of-length-le}
 use lib.Seq.{getD-take, getD-drop, take-all, drop-drop, sets, sets-eq, take-append-seam, drop-append-add}
 use borrow.Rule.Slice.PartMut.{putMid}
 use Rattle.record.specs.Record.{size, peakFrom}
-use Rattle.record.specs.RoundTrip.{own-words}
+use Rattle.record.proofs.RoundTrip.{own-words}
 
 -- r words R, written through the part `&mut out[a..]`
 pub put-part : {A : Type 0} (out R last : List A) (a r : ℕ) → last ≡ R ++ drop r (take (length out - a) (drop a out))

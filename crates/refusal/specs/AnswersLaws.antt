@@ -1,18 +1,7 @@
--- What answers say is as strong as which answers they are. Assumes nothing.
-use mathlib.Core.Path.{_≡_, refl, _∙_, ap}
-use mathlib.Core.Bool.{Bool, true, false, cond}
+-- What is made of an answer, by cases.
 use mathlib.Core.Option.{Option, none, some}
 use Prim.Native.Nat.{ℕ}
-use borrow.Author.Tests.{ne-eqb}
-use lib.Dec.{eqb}
-use Rattle.refusal.specs.Answers.{Says, answerBy, countIn}
-
--- the two ways to answer, for a function that has the number n and values w
-pub says-number : {A : Type 0} {n k : ℕ} (v : A) → n ≡ k → (n ≡ 0 → ⊥) → record { number = n; values = none } ≡ answerBy k v
-says-number {n = n} v e h = rw (← e, ne-eqb n 0 h)
-
-pub says-values : {A : Type 0} {n k : ℕ} (v : A) {w : A} → n ≡ k → n ≡ 0 → w ≡ v → record { number = 0; values = some w } ≡ answerBy k v
-says-values v e h g = rw (← e, h, g)
+use Rattle.refusal.specs.Answers.{Says}
 
 -- by cases, where there is a value and where there is none
 abbrev pub fromOption : {A R : Type 0} → (A → R) → R → Option A → R
@@ -21,20 +10,3 @@ fromOption with-values other (some v) = with-values v
 
 abbrev pub fromSays : {A R : Type 0} → (A → R) → (ℕ → R) → Says A → R
 fromSays with-values with-number s = fromOption with-values (with-number (s .number)) (s .values)
-
--- an answer that is told from the others by what it says
-pub which : {A R : Type 0} (accepted : A → R) (refused : ℕ → R) (says : R → Says A) → ((r : R) → r ≡ fromSays accepted refused (says r))
-    → (r : R) (n : ℕ) (v : A) → says r ≡ answerBy n v → r ≡ cond (eqb n 0) (accepted v) (refused n)
-which accepted refused says again r n v e = again r ∙ ap (fromSays accepted refused) e ∙ go (eqb n 0)
-  where
-    go : (z : Bool) → fromOption accepted (refused n) (cond z (some v) none) ≡ cond z (accepted v) (refused n)
-    go true = refl
-    go false = refl
-
--- the count that is answered
-pub count-says : (s : Says ℕ) (n count : ℕ) → s ≡ answerBy n count → countIn s ≡ cond (eqb n 0) count 0
-count-says s n count e = ap countIn e ∙ go (eqb n 0)
-  where
-    go : (z : Bool) → countIn (record { number = n; values = cond z (some count) none }) ≡ cond z count 0
-    go true = refl
-    go false = refl

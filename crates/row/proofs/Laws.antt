@@ -13,7 +13,7 @@ use lib.Ieee.{Float, nan, binary32, neg, ofBits}
 use Rattle.limits.specs.Limits.{maxSamples, anyNumber, maxHeight, identities, exactIndex}
 use Rattle.numeric.specs.Arith.{at, 𝟎, ½}
 use Rattle.numeric.specs.Numeric.{allInRange}
-use Rattle.refusal.specs.Bools.{both, all3, all5}
+use Rattle.refusal.proofs.Bools.{both, all3, all5}
 use Rattle.numeric.proofs.Patterns.{all-wider}
 use Rattle.spans.specs.Span.{spanOf}
 use Rattle.record.specs.declared.ImPeak1D.{ImPeak1D}
@@ -31,8 +31,8 @@ use Rattle.rowsearch.proofs.Laws.{Next}
 use Rattle.row.specs.declared.inner.OnAxes.{OnAxes}
 use Rattle.row.specs.Row.{onAxes, mobilityAt, mobilityFlag, groupFlag, groupWord, scanAt, subscan, peakOf, rowWords}
 use Rattle.row.specs.RowNumber.{sameLengths, soundReadings, soundValues, rowNumber}
-use Rattle.row.specs.RowNumberLaws.{none-for}
-use Rattle.row.specs.RowWords.{row-words-length}
+use Rattle.row.proofs.RowNumberLaws.{none-for}
+use Rattle.row.proofs.RowWords.{row-words-length}
 use Rattle.row.specs.Written.{Written, asWords, stride, withRecord}
 use Rattle.row.specs.Steps.{Ready, Numbers, Inside, Listed}
 

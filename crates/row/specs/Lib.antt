@@ -1,7 +1,5 @@
 -- The definitions that the contracts of `row` cite, and what follows of them.
 pub mod Row
 pub mod RowNumber
-pub mod RowNumberLaws
-pub mod RowWords
 pub mod Written
 pub mod Steps

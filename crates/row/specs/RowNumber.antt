@@ -1,5 +1,4 @@
 -- Which number of document 01 a row is answered with, 0 for none, and what an answer says.
-use mathlib.Core.Path.{_≡_, refl}
 use mathlib.Core.Bool.{Bool, cond, not, _&&_}
 use mathlib.Core.List.{List, [], _∷_, _++_}
 use mathlib.Core.Option.{none, some}
@@ -55,10 +54,6 @@ rowChecks y z r f mobility p axis first room =
 
 unfoldable pub rowNumber : List Float → List Float → RowPlace → FrameBounds → List Float → ImDetectParams → List ℕ → ℕ → ℕ → ℕ
 rowNumber y z r f mobility p axis first room = firstOf (rowChecks y z r f mobility p axis first room)
-
-pub number-is : (y z : List Float) (r : RowPlace) (f : FrameBounds) (mobility : List Float) (p : ImDetectParams) (axis : List ℕ) (first room : ℕ) → rowNumber y z r f mobility p axis first room ≡ firstOf (rowChecks y z r f mobility p axis first room)
-unfolding rowNumber
-number-is y z r f mobility p axis first room = refl
 
 -- what an answer says: the count of peaks, or the number that applies
 abbrev pub rowSays : RowAnswer → Says ℕ

@@ -1,7 +1,7 @@
 -- The account of a row's qualifying apexes.
 use Rattle.rowsearch.specs.Qualifying.{qualifying, kept}
-use Rattle.rowsearch.specs.Account.{all-accounted}
-use Rattle.rowsearch.specs.QualifyingLaws.{qualifying-ascend, qualifying-no-nan}
+use Rattle.rowsearch.proofs.Account.{all-accounted}
+use Rattle.rowsearch.proofs.QualifyingLaws.{qualifying-ascend, qualifying-no-nan}
 use Rattle.rowlaws.specs.RowAccount.{RowAccounted}
 
 pub row-accounted : RowAccounted

@@ -20,15 +20,17 @@ use Rattle.apex.specs.Apex.{prominence, leftFoot, rightFoot, leftCrossing, righ
 use Rattle.area.specs.Area.{strip, within, head, whole, tail, across, between, areaF}
 use Rattle.record.specs.declared.ImPeak1D.{ImPeak1D}
 use Rattle.record.specs.Record.{size, wordsOf, peakFrom, peakAt, withPeak}
-use Rattle.record.specs.RoundTrip.{FloatsFit, own-words, got-back}
+use Rattle.record.specs.RoundTrip.{FloatsFit}
+use Rattle.record.proofs.RoundTrip.{own-words, got-back}
 use Rattle.params.specs.declared.RowPlace.{RowPlace}
 use Rattle.params.specs.declared.FrameBounds.{FrameBounds}
 use Rattle.rowsearch.specs.Suppression.{keepAll}
-use Rattle.rowsearch.specs.Account.{_∈_, Descending, kept-descend}
+use Rattle.rowsearch.specs.Account.{_∈_, Descending}
+use Rattle.rowsearch.proofs.Account.{kept-descend}
 use Rattle.rowsearch.specs.Qualifying.{leftX, rightX, qualifying, kept}
-use Rattle.rowsearch.specs.QualifyingLaws.{qualifying-ascend}
+use Rattle.rowsearch.proofs.QualifyingLaws.{qualifying-ascend}
 use Rattle.row.specs.Row.{subscan, mobilityAt, peakOf, rowWords}
-use Rattle.row.specs.RowWords.{row-words-length}
+use Rattle.row.proofs.RowWords.{row-words-length}
 use Rattle.rowlaws.specs.RowRecords.{nth, Bears, KeptBear, KeptWhole, KeptAscend}
 
 -- each is one of the list

@@ -12,8 +12,8 @@ use lib.Ieee.{Float, le, ofBits, toBits}
 use Rattle.limits.specs.Limits.{maxReading, maxHeight, maxArea, maxMobility, maxPlace, maxTofBound, maxScan, maxWidth, lastSample, lastRow, maxSamples}
 use Rattle.numeric.specs.Arith.{𝟎, indexF, at}
 use Rattle.numeric.specs.Numeric.{maxF, minF, quadF, inRange, allInRange}
-use Rattle.refusal.specs.Bools.{both, all3, all5}
-use Rattle.refusal.specs.RefusalLaws.{appliesFor}
+use Rattle.refusal.proofs.Bools.{both, all3, all5}
+use Rattle.refusal.proofs.RefusalLaws.{appliesFor}
 use Rattle.numeric.proofs.Patterns.{range-at, all-wider}
 use Rattle.numeric.proofs.Bounds.{one, mag, AtMost, rep-at, le-mag, limitF, in-at-most, at-most-in}
 use Rattle.apex.specs.Apex.{prominence}
@@ -27,11 +27,12 @@ use Rattle.params.specs.declared.RowPlace.{RowPlace}
 use Rattle.params.specs.declared.FrameBounds.{FrameBounds}
 use Rattle.spans.specs.Span.{sampleAt}
 use Rattle.rowsearch.specs.Qualifying.{leftX, rightX, width, qualifying, kept}
-use Rattle.rowsearch.specs.Account.{_∈_, kept-qualify}
-use Rattle.rowsearch.specs.QualifyingLaws.{qualifying-listed}
+use Rattle.rowsearch.specs.Account.{_∈_}
+use Rattle.rowsearch.proofs.Account.{kept-qualify}
+use Rattle.rowsearch.proofs.QualifyingLaws.{qualifying-listed}
 use Rattle.row.specs.Row.{scanAt, subscan, mobilityAt, mobilityFlag, groupFlag, peakOf, rowWords}
 use Rattle.row.specs.RowNumber.{sameLengths, soundReadings, soundValues, soundAxis, rowChecks, rowNumber}
-use Rattle.row.specs.RowNumberLaws.{none-for}
+use Rattle.row.proofs.RowNumberLaws.{none-for}
 use Rattle.row.proofs.Laws.{mobility-in, mobility-out, mobility-flag-le, group-flag-le}
 use Rattle.rounding.specs.Rounding.{floorF, ceilF}
 use Rattle.rowlaws.specs.RowRecords.{nth}

@@ -19,13 +19,13 @@ use Rattle.numeric.proofs.Order.{lt-no-nan, lt-not-le, lt-trans, not-lt, lt-le-
 use Rattle.apex.specs.Apex.{baseline, prominence, halfHeight}
 use Rattle.spans.specs.Span.{spanOf, widthOf}
 use Rattle.params.specs.declared.ImDetectParams.{ImDetectParams}
-use Rattle.apex.specs.Candidates.{count}
+use Rattle.apex.proofs.Candidates.{count}
 use Rattle.turns.specs.Turns.{turn, apexesOf}
 use Rattle.sweep.specs.Searched.{Searched}
 use Rattle.spans.specs.declared.inner.Span.{Span}
 use Rattle.rowsearch.specs.Suppression.{keep, keepAll}
-use Rattle.rowsearch.specs.Account.{keep-length, keepAll-append}
-use Rattle.rowsearch.specs.QualifyingLaws.{qualify-append, keep-one, kept-high}
+use Rattle.rowsearch.proofs.Account.{keep-length, keepAll-append}
+use Rattle.rowsearch.proofs.QualifyingLaws.{qualify-append, keep-one, kept-high}
 use Rattle.rowsearch.specs.Qualifying.{highest, reaches, leftX, rightX, width, qualifies, thatQualify, kept}
 use Rattle.rowsearch.specs.Found.{measuredOf, foundSize, measuredWords, measuredFrom, measuredAt, withMeasured, Fits, FoundAt, Found, oldest, keepIf, Newest, Keeps, keptOf, after}
 use Rattle.rowsearch.specs.declared.inner.Measured.{Measured}

@@ -1,2 +1,4 @@
 -- What the proofs of `rowsearch` cite.
 pub mod Laws
+pub mod Account
+pub mod QualifyingLaws

@@ -2,6 +2,5 @@
 pub mod Qualifying
 pub mod Suppression
 pub mod Account
-pub mod QualifyingLaws
 pub mod Found
 pub mod Cases

@@ -13,7 +13,7 @@ use lib.ListN.{length}
 use lib.Ieee.{Float, nan, binary32, lt, toBits, ofBits, fits}
 use lib.Ieee.Bits.{ofBits-toBits, ofBits-fits}
 use lib.Ieee.Fits.{cond-fits, div-fits}
-use Rattle.refusal.specs.Bools.{both, all4}
+use Rattle.refusal.proofs.Bools.{both, all4}
 use Rattle.limits.specs.Limits.{maxWeights, maxWeight, maxReading}
 use Rattle.numeric.proofs.Patterns.{range-at}
 use Rattle.numeric.proofs.Bounds.{one, mag, Num, Rep, AtMost, one-pos, rep, rep-at, rep-scale, rep-whole, add-at-most, add-at-least, mul-at-most, div-at-most, add-scaled, lt-mag, in-at-most, at-most-in, all-range, mag-zero, mag-one, mag-readings, num-zero, num-one, limitF}

@@ -12,12 +12,12 @@ use lib.Dec.{leb, ltb, eqb}
 use lib.ListN.{length, drop, take, set, length-append, length-map, take-append-drop, drop-of-length-le, List·getD-append}
 use lib.Seq.{drop-cons, take-suc, take-length, set-at, getD-at, take-at, drop-at, drop-drop, drop-length, length-take-le, getD-take, ext-getD}
 use lib.Ieee.{Float, nan, lt}
-use Rattle.refusal.specs.Bools.{all4}
+use Rattle.refusal.proofs.Bools.{all4}
 use Rattle.numeric.specs.Numeric.{allInRange}
 use Rattle.limits.specs.Limits.{maxWeights}
 use Rattle.numeric.specs.Arith.{_⊕_, _⊗_, _⊘_, 𝟎, at}
 use Rattle.smoothing.specs.Smoothing.{tabulate, sumFrom, normalised, radius, meets, weighted, met, smoothedAt, smoothed, soundWeights, smoothNumber}
-use Rattle.smoothing.specs.SmoothLaws.{none-for}
+use Rattle.smoothing.proofs.SmoothLaws.{none-for}
 use Rattle.smoothing.specs.Steps.{filled, added}
 
 -- ---- tables

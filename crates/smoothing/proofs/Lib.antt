@@ -1,3 +1,4 @@
 -- Laws that the proofs share.
 pub mod Laws
 pub mod InRange
+pub mod SmoothLaws

@@ -1,6 +1,5 @@
 -- The definitions that the contracts of `smoothing` cite, and worked cases of them.
 pub mod Smoothing
-pub mod SmoothLaws
 pub mod Answer
 pub mod Steps
 pub mod InRange

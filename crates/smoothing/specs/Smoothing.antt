@@ -1,6 +1,5 @@
 -- Smoothing of a row by weights that the caller gives as they stand before division by their sum. Every operation is
 -- rounded once, in this order.
-use mathlib.Core.Path.{_≡_, refl}
 use mathlib.Core.Bool.{Bool, cond, not, _&&_}
 use mathlib.Core.List.{List, [], _∷_, _++_, map}
 use Prim.Native.Nat.{ℕ, zero, suc, _+_, _-_, _/_, _%_}
@@ -76,7 +75,3 @@ smoothChecks v ws scratch =
 
 unfoldable pub smoothNumber : List Float → List Float → ℕ → ℕ
 smoothNumber v ws scratch = firstOf (smoothChecks v ws scratch)
-
-pub number-is : (v ws : List Float) (scratch : ℕ) → smoothNumber v ws scratch ≡ firstOf (smoothChecks v ws scratch)
-unfolding smoothNumber
-number-is v ws scratch = refl

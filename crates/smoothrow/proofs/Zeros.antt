@@ -18,7 +18,7 @@ use Rattle.numeric.proofs.Laws.{clash}
 use Rattle.smoothing.specs.Smoothing.{radius, meets, weighted, met, smoothedAt, smoothed, normalised}
 use Rattle.smoothing.proofs.Laws.{at-tab, smoothed-length}
 use Rattle.apex.specs.Apex.{isCandidate, candidatesTo, candidates}
-use Rattle.apex.specs.Candidates.{none-more}
+use Rattle.apex.proofs.Candidates.{none-more}
 use Rattle.params.specs.declared.ImDetectParams.{ImDetectParams}
 use Rattle.rowsearch.specs.Qualifying.{highest, reaches, thatQualify, qualifying, kept}
 use Rattle.rowsearch.specs.Suppression.{keepAll}

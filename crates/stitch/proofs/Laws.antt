@@ -9,9 +9,9 @@ use lib.Seq.{drop-cons, drop-drop, drop-at, take-at, take-suc, set-at, getD-at, 
 use Rattle.record.specs.Record.{size}
 use Rattle.matching.specs.declared.StitchParams.{StitchParams}
 use Rattle.grouping.specs.Grouping.{groupWords}
-use Rattle.grouping.specs.GroupingLaws.{words-length}
+use Rattle.grouping.proofs.GroupingLaws.{words-length}
 use Rattle.stitch.specs.Stitching.{upTo, numberIn, passGroups, firstRule, secondRule, firstGroups, mergedList, secondGroups, stitchedWords, ownersOf}
-use Rattle.stitch.specs.StitchingLaws.{same-map, pass-count, pass-number, column-at, handed}
+use Rattle.stitch.proofs.StitchingLaws.{same-map, pass-count, pass-number, column-at, handed}
 
 module _ (f : ℕ → ℕ) (l : List ℕ) (i : ℕ) (h : i < length l) where
   front-length : length (map f (take i l)) ≡ i

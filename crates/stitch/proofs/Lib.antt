@@ -1,2 +1,3 @@
 -- What the proofs of `stitch` share.
 pub mod Laws
+pub mod StitchingLaws

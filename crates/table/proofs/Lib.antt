@@ -2,3 +2,5 @@
 pub mod Laws
 pub mod Buffers
 pub mod Readings
+pub mod Lines
+pub mod Facts

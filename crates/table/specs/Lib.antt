@@ -2,7 +2,6 @@
 pub mod Sizes
 pub mod Text
 pub mod Print
-pub mod Facts
 pub mod Table
 pub mod Lines
 pub mod Cases

@@ -18,8 +18,10 @@ use Rattle.table.specs.Print.{refusal}
 use Rattle.table.specs.Sizes.{maxLine}
 use Rattle.table.specs.Text.{onto, lf, lfFrom, nextLine}
 use Rattle.table.specs.Table.{cr, lines, endsInCr, verdict, printedFrom}
-use Rattle.table.specs.Lines.{noLf, last-line, lf-at, first-line, first-line-bad, long-refused}
-use Rattle.peaklines.specs.TableText.{peaksText, lineText, behindLine, line-by-line}
+use Rattle.table.specs.Lines.{noLf}
+use Rattle.table.proofs.Lines.{last-line, lf-at, first-line, first-line-bad, long-refused}
+use Rattle.peaklines.specs.TableText.{peaksText, tableText, lineText, behindLine}
+use Rattle.peaklines.proofs.TableLaws.{line-by-line}
 use Rattle.tabletext.specs.declared.inner.Fed.{Fed}
 use Rattle.tabletext.specs.Bytes.{textFrom, textLeft, Put, afterLine}
 
@@ -213,3 +215,7 @@ module _ (bytes : List ℕ) (from i : ℕ) (h : nextLine bytes from ≡ LineEnd.
       let n : length (t .0) ≡ i - from = omega (arith, t .3) in
       let x : take (i - from) (drop from bytes) ≡ t .0 = ap (take (i - from)) (t .2) ∙ take-at (t .0) (lf ∷ t .1) (i - from) n in
       (ap noLf x ∙ t .4, (t .1, t .2 ∙ sym (append-assoc (t .0) (lf ∷ []) (t .1)) ∙ ap (λ (l : List ℕ). (l ++ (lf ∷ [])) ++ t .1) (sym x)))
+
+-- what is printed from the start on is the table
+pub whole-text : (bytes : List ℕ) → textFrom Progress.Start bytes ≡ tableText bytes
+whole-text bytes = refl

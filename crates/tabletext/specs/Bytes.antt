@@ -1,5 +1,5 @@
 -- What is printed for bytes, of which some are there and any may follow.
-use mathlib.Core.Path.{_≡_, refl}
+use mathlib.Core.Path.{_≡_}
 use mathlib.Core.Bool.{true, false, cond}
 use mathlib.Core.List.{List, [], _++_}
 use Prim.Native.Nat.{ℕ, _≤_, _+_}
@@ -9,16 +9,12 @@ use Rattle.table.specs.declared.Verdict.{Verdict}
 use Rattle.table.specs.Sizes.{lineRoom}
 use Rattle.table.specs.Table.{lines, printedFrom}
 use Rattle.table.specs.Lines.{noLf}
-use Rattle.peaklines.specs.TableText.{peaksText, tableText}
+use Rattle.peaklines.specs.TableText.{peaksText}
 use Rattle.tabletext.specs.declared.inner.Fed.{Fed}
 
 -- What is printed for bytes, from what has been accepted before them on.
 abbrev pub textFrom : Progress → List ℕ → List ℕ
 textFrom s bytes = printedFrom peaksText s (lines bytes)
-
--- from the start on, the table
-pub whole-text : (bytes : List ℕ) → textFrom Progress.Start bytes ≡ tableText bytes
-whole-text bytes = refl
 
 -- what is printed for the bytes that are left: nothing behind a refusal
 abbrev pub textLeft : Fed → List ℕ → List ℕ

@@ -17,11 +17,11 @@ use lib.Ieee.Fits.{down-pos}
 use Rattle.limits.specs.Limits.{maxTofBound, maxBinPlace, exactIndex}
 use Rattle.numeric.specs.Arith.{𝟎, indexF}
 use Rattle.numeric.specs.Numeric.{castF, inRange}
-use Rattle.refusal.specs.Bools.{clash, neither}
+use Rattle.refusal.proofs.Bools.{clash, neither}
 use Rattle.numeric.proofs.Laws.{and-true}
 use Rattle.tof.specs.declared.TofScale.{TofScale}
 use Rattle.tof.specs.Tof.{Sound, edge, lowest, highest}
-use Rattle.tof.specs.TofLaws.{edges-held, plain}
+use Rattle.tof.proofs.TofLaws.{edges-held, plain}
 
 -- ---- edges
 pub edge-fits : (s : TofScale) → Sound s → (i : ℕ) → i ≤ s .«num_bins» → edge s i ≤ maxTofBound

@@ -1,7 +1,4 @@
 -- The definitions that the contracts of `tof` cite.
 pub mod Tof
 pub mod TofAnswers
-pub mod TofLaws
-pub mod TofWhich
-pub mod Exact
 pub mod Cases

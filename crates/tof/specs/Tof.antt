@@ -1,6 +1,6 @@
 -- The scale that parts TOF values into bins of one step, from the lowest TOF of all frames to the highest, both rounded down
 -- to the step. Edges and centres are worked out.
-use mathlib.Core.Path.{_≡_, refl}
+use mathlib.Core.Path.{_≡_}
 use mathlib.Core.Bool.{Bool, true, cond, not, _&&_}
 use mathlib.Core.List.{List, [], _∷_}
 use Prim.Native.Nat.{ℕ, _+_, _-_, _*_, _/_, _%_, min, max}
@@ -107,10 +107,6 @@ scaleChecks s value tofs =
 
 unfoldable pub scaleNumber : TofScale → Bool → Bool → ℕ
 scaleNumber s value tofs = firstOf (scaleChecks s value tofs)
-
-pub scale-number-is : (s : TofScale) (value tofs : Bool) → scaleNumber s value tofs ≡ firstOf (scaleChecks s value tofs)
-unfolding scaleNumber
-scale-number-is s value tofs = refl
 
 -- ---- a scale of TOF values
 

@@ -1,5 +1,4 @@
 -- What each answer of the scale's entries says, and what it must say: document 01's number, and the values where none applies.
-use mathlib.Core.Path.{_≡_, refl}
 use mathlib.Core.Bool.{true, cond, not, _&&_}
 use mathlib.Core.List.{List, [], _∷_}
 use mathlib.Core.Option.{Option, none, some}
@@ -39,10 +38,6 @@ buildChecks tofs step =
 
 unfoldable pub buildNumber : List ℕ → ℕ → ℕ
 buildNumber tofs step = firstOf (buildChecks tofs step)
-
-pub build-number-is : (tofs : List ℕ) (step : ℕ) → buildNumber tofs step ≡ firstOf (buildChecks tofs step)
-unfolding buildNumber
-build-number-is tofs step = refl
 
 -- no value, or one distinct value, gives no scale
 abbrev pub scaleFrom : List ℕ → ℕ → Option TofScale

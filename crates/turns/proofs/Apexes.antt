@@ -13,7 +13,7 @@ use Rattle.numeric.specs.Arith.{at}
 use Rattle.numeric.specs.Plain.{wordIn, AllPlain}
 use Rattle.numeric.proofs.Patterns.{lt-bits, le-bits}
 use Rattle.apex.specs.Apex.{isCandidate, candidatesTo, candidates}
-use Rattle.apex.specs.Candidates.{one-more, none-more}
+use Rattle.apex.proofs.Candidates.{one-more, none-more}
 use Rattle.turns.specs.Turns.{turn, Turning, apexesOf}
 
 -- ---- one sample

@@ -15,10 +15,10 @@ use Rattle.numeric.specs.Arith.{at}
 use Rattle.numeric.proofs.Patterns.{range-at}
 use Rattle.numeric.specs.Numeric.{inRange, allInRange}
 use Rattle.numeric.proofs.Laws.{no-nan, is-nan, and-true, and-assoc}
-use Rattle.refusal.specs.Bools.{both, and-false}
+use Rattle.refusal.proofs.Bools.{both, and-false}
 use Rattle.params.specs.Params.{allUpTo, rising, risingFrom}
 use Rattle.wordbytes.specs.Bytes.{wordsOf, floatsOf, bytesOfWord, bytesOf, withWord}
-use Rattle.wordbytes.specs.BytesLaws.{words-length, floats-length, bytes-append, bytes-length}
+use Rattle.wordbytes.proofs.BytesLaws.{words-length, floats-length, bytes-append, bytes-length}
 
 -- ---- a buffer that is filled from the front
 pub fill-turn : {A : Type 0} (l d out : List A) (i : ℕ) (z v : A) → i < length l → i < length d → out ≡ take i l ++ drop i d → v ≡ getD l i z

@@ -1,4 +1,3 @@
 -- The definitions that the contracts of `wordbytes` cite, what follows of them, and worked cases.
 pub mod Bytes
-pub mod BytesLaws
 pub mod Cases

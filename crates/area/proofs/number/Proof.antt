@@ -2,7 +2,8 @@ use borrow.Author.Tests.{lt-ltb, le-ltb}
 use mathlib.Core.Path.{refl}
 use borrow.Author.Needs.{needs}
 use Rattle.refusal.proofs.Walk.{Left, refused, past, accepted, by}
-use Rattle.area.specs.Area.{areaChecks, areaNumber, number-is}
+use Rattle.area.specs.Area.{areaChecks, areaNumber}
+use Rattle.area.proofs.AreaLaws.{number-is}
 use Rattle.area.proofs.number.Statement.{statement}
 use Rattle.area.proofs.number.Tie as tie
 

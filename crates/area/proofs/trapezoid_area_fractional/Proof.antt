@@ -3,9 +3,9 @@ use mathlib.Core.Path.{sym, _∙_}
 use native.Mathlib.Omega.{arith}
 use borrow.Author.Needs.{needs}
 use lib.ListN.{length}
-use Rattle.refusal.specs.AnswersLaws.{says-number, says-values}
+use Rattle.refusal.proofs.AnswersLaws.{says-number, says-values}
 use Rattle.limits.specs.Limits.{maxSamples}
-use Rattle.area.specs.AreaLaws.{none-for}
+use Rattle.area.proofs.AreaLaws.{none-for}
 use Rattle.area.proofs.trapezoid_area_fractional.Statement.{statement}
 use Rattle.area.proofs.trapezoid_area_fractional.Tie as tie
 

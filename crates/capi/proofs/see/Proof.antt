@@ -8,7 +8,7 @@ use borrow.Author.Needs.{needs}
 use lib.Dec.{T, ltb, leb, eqb}
 use lib.ListN.{length, getD, drop, take, set}
 use lib.Ieee.{Float, nan, binary32, lt}
-use Rattle.wordbytes.specs.BytesLaws.{floats-length, words-length}
+use Rattle.wordbytes.proofs.BytesLaws.{floats-length, words-length}
 use Rattle.capi.proofs.see.Statement.{statement}
 use Rattle.capi.proofs.see.Tie as tie
 use Rattle.capi.proofs.see.Reads as reads

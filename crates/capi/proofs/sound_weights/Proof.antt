@@ -6,7 +6,7 @@ use Rattle.limits.specs.Limits.{maxWeight, maxReading}
 use Rattle.numeric.proofs.Patterns.{all-wider}
 use Rattle.smoothing.specs.Smoothing.{soundWeights}
 use Rattle.wordbytes.specs.Bytes.{floatsOf}
-use Rattle.wordbytes.specs.BytesLaws.{floats-length}
+use Rattle.wordbytes.proofs.BytesLaws.{floats-length}
 use Rattle.wordbytes.proofs.Laws.{decode-from, decoded-floats}
 use Rattle.capi.proofs.Laws.{no-weights, long-weights, wrong-weights, some-weights}
 use mathlib.Core.Path.{sym, _∙_, ap}

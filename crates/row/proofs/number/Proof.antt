@@ -2,7 +2,8 @@ use borrow.Author.Tests.{lt-ltb, le-ltb}
 use mathlib.Core.Path.{refl}
 use borrow.Author.Needs.{needs}
 use Rattle.refusal.proofs.Walk.{Left, refused, past, accepted, by}
-use Rattle.row.specs.RowNumber.{rowChecks, rowNumber, number-is}
+use Rattle.row.specs.RowNumber.{rowChecks, rowNumber}
+use Rattle.row.proofs.RowNumberLaws.{number-is}
 use Rattle.row.proofs.number.Statement.{statement}
 use Rattle.row.proofs.number.Tie as tie
 

@@ -2,7 +2,8 @@ use borrow.Author.Tests.{lt-ltb, le-ltb}
 use mathlib.Core.Path.{refl}
 use borrow.Author.Needs.{needs}
 use Rattle.refusal.proofs.Walk.{Left, refused, past, accepted, by}
-use Rattle.smoothing.specs.Smoothing.{smoothChecks, smoothNumber, number-is}
+use Rattle.smoothing.specs.Smoothing.{smoothChecks, smoothNumber}
+use Rattle.smoothing.proofs.SmoothLaws.{number-is}
 use Rattle.smoothing.proofs.number.Statement.{statement}
 use Rattle.smoothing.proofs.number.Tie as tie
 

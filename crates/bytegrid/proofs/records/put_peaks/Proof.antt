@@ -11,7 +11,7 @@ use Rattle.rowsearch.proofs.Laws.{next, none-yet, all-now}
 use Rattle.row.specs.Steps.{Inside, Listed}
 use Rattle.row.specs.declared.inner.OnAxes.{OnAxes}
 use Rattle.wordbytes.specs.Bytes.{wordsOf, floatsOf}
-use Rattle.wordbytes.specs.BytesLaws.{words-length}
+use Rattle.wordbytes.proofs.BytesLaws.{words-length}
 use Rattle.bytegrid.specs.ByteGrid.{asBytes}
 use Rattle.row.proofs.Laws.{mobility-flag-le, next-listed, listed-none, read-inside, read-is}
 use Rattle.row.specs.Row.{peakOf}

@@ -9,7 +9,7 @@ use lib.Dec.{T, ltb, leb, eqb}
 use lib.ListN.{length, getD, drop, take, set}
 use lib.Ieee.{Float, nan, binary32, lt}
 use Rattle.wordbytes.specs.Bytes.{wordsOf, floatsOf}
-use Rattle.wordbytes.specs.BytesLaws.{floats-length}
+use Rattle.wordbytes.proofs.BytesLaws.{floats-length}
 use Rattle.grid.specs.Grid.{Grid, rowOf}
 use Rattle.grid.specs.Steps.{gridOf}
 use Rattle.grid.proofs.Laws.{row-handed, row-done}

@@ -10,7 +10,7 @@ use lib.ListN.{length, getD, drop, take, set}
 use lib.Ieee.{Float, nan, binary32, lt}
 use Rattle.params.specs.Params.{mostPeaks}
 use Rattle.rowsearch.specs.Qualifying.{kept}
-use Rattle.rowsearch.specs.QualifyingLaws.{kept-count}
+use Rattle.rowsearch.proofs.QualifyingLaws.{kept-count}
 use Rattle.smoothrow.specs.SmoothRow.{Says}
 use Rattle.smoothrow.specs.declared.inner.Sought.the-variants.{Nothing, Raw, Smoothed}
 use Rattle.smoothrow.proofs.Laws.{searched-length}

@@ -4,7 +4,7 @@ use lib.Seq.{take-at, length-take-le}
 use lib.ListN.{length-append}
 use Rattle.grid.specs.Grid.{Grid}
 use Rattle.wordbytes.specs.Bytes.{wordsOf, floatsOf}
-use Rattle.wordbytes.specs.BytesLaws.{floats-length}
+use Rattle.wordbytes.proofs.BytesLaws.{floats-length}
 use Rattle.wordbytes.proofs.Laws.{decoded-floats, decode-from}
 use Rattle.grid.specs.Steps.{gridOf, Ready, Done}
 use Rattle.grid.proofs.Laws.{few-weights}

@@ -5,7 +5,7 @@ use native.Mathlib.Omega.{arith}
 use borrow.Author.Needs.{needs}
 use lib.ListN.{length, getD, set, length-set}
 use Rattle.record.specs.Record.{peakAt}
-use Rattle.ordering.specs.OrderingLaws.{at-index}
+use Rattle.ordering.proofs.OrderingLaws.{at-index}
 use Rattle.grouping.specs.Grouping.{peaksAt, groupWords, marked}
 use Rattle.grouping.proofs.Laws.{groups-none, Walked, walk-start, walk-join, walk-close, end-count, end-marks, end-records}
 use Rattle.grouping.proofs.inner.put_groups.Statement.{statement}

@@ -1,5 +1,5 @@
 use Rattle.table.specs.Print.{peakLine}
-use Rattle.table.specs.Facts.{line-most}
+use Rattle.table.proofs.Facts.{line-most}
 use Rattle.record.proofs.Laws.{put-part}
 use mathlib.Core.Path.{ap}
 use Prim.Native.Nat.{ℕ, _+_}

@@ -1,7 +1,7 @@
 use native.Mathlib.Omega.{arith}
 use borrow.Author.Needs.{needs}
 use Rattle.rowsearch.specs.Qualifying.{kept}
-use Rattle.rowsearch.specs.QualifyingLaws.{kept-count}
+use Rattle.rowsearch.proofs.QualifyingLaws.{kept-count}
 use Rattle.peaklines.proofs.inner.put_lines_in.Statement.{statement}
 use Rattle.peaklines.proofs.inner.put_lines_in.Tie as tie
 

@@ -4,7 +4,7 @@ use native.Mathlib.Omega.{arith}
 use borrow.Author.Needs.{needs}
 use borrow.Author.Tests.{not-true, not-false}
 use Rattle.rowsearch.specs.Qualifying.{kept}
-use Rattle.rowsearch.specs.QualifyingLaws.{kept-low}
+use Rattle.rowsearch.proofs.QualifyingLaws.{kept-low}
 use Rattle.peaklines.specs.RowLines.{linesOf}
 use Rattle.peaklines.proofs.inner.put_row_lines.Statement.{statement}
 use Rattle.peaklines.proofs.inner.put_row_lines.Tie as tie

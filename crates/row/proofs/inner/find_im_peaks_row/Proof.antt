@@ -7,7 +7,7 @@ use native.Mathlib.Omega.{arith}
 use borrow.Author.Needs.{needs}
 use lib.Dec.{T, ltb, leb, eqb}
 use borrow.Author.Tests.{not-true, not-false}
-use Rattle.rowsearch.specs.QualifyingLaws.{kept-low}
+use Rattle.rowsearch.proofs.QualifyingLaws.{kept-low}
 use Rattle.row.proofs.Laws.{none-words}
 use lib.ListN.{length, getD, drop, take, set}
 use lib.Ieee.{Float, nan, binary32, lt}

@@ -7,7 +7,7 @@ use native.Mathlib.Omega.{arith}
 use borrow.Author.Needs.{needs}
 use lib.Dec.{T, ltb, leb, eqb}
 use Rattle.rowsearch.specs.Qualifying.{kept}
-use Rattle.rowsearch.specs.QualifyingLaws.{kept-count}
+use Rattle.rowsearch.proofs.QualifyingLaws.{kept-count}
 use lib.ListN.{length, getD, drop, take, set}
 use lib.Ieee.{Float, nan, binary32, lt}
 use Rattle.row.proofs.inner.list_peaks.Statement.{statement}

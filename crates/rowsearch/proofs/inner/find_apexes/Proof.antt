@@ -9,7 +9,7 @@ use lib.Dec.{T, ltb, leb, eqb}
 use Rattle.numeric.proofs.Patterns.{all-plain}
 use Rattle.rowsearch.specs.Found.{Found}
 use Rattle.rowsearch.proofs.Laws.{few-apexes, kept-of-row}
-use Rattle.rowsearch.specs.QualifyingLaws.{kept-count}
+use Rattle.rowsearch.proofs.QualifyingLaws.{kept-count}
 use lib.ListN.{length, getD, drop, take, set}
 use lib.Ieee.{Float, nan, binary32, lt}
 use Rattle.rowsearch.proofs.inner.find_apexes.Statement.{statement}

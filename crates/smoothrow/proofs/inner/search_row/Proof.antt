@@ -10,7 +10,7 @@ use lib.ListN.{length, getD, drop, take, set}
 use lib.Ieee.{Float, nan, binary32, lt}
 use borrow.Author.Tests.{not-true, not-false}
 use Rattle.smoothing.proofs.Laws.{smoothed-length}
-use Rattle.rowsearch.specs.QualifyingLaws.{kept-low}
+use Rattle.rowsearch.proofs.QualifyingLaws.{kept-low}
 use Rattle.smoothrow.proofs.Laws.{smoothed-front, raw-searchable, smooth-searchable, done-none, done-raw, done-smoothed}
 use Rattle.smoothrow.proofs.Zeros.{zeros-skip}
 use Rattle.smoothrow.proofs.inner.search_row.Statement.{statement}

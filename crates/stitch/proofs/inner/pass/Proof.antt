@@ -8,7 +8,7 @@ use Rattle.record.specs.Record.{size}
 use Rattle.ordering.specs.Ordering.{keyAt, sortedBy, Within}
 use Rattle.grouping.specs.Grouping.{groups, groupWords, marked, Columned}
 use Rattle.stitch.specs.Stitching.{upTo, passGroups}
-use Rattle.stitch.specs.StitchingLaws.{upto-within, order-length, order-within, order-columned, pass-column}
+use Rattle.stitch.proofs.StitchingLaws.{upto-within, order-length, order-within, order-columned, pass-column}
 use Rattle.stitch.proofs.inner.pass.Statement.{statement}
 use Rattle.stitch.proofs.inner.pass.Tie as tie
 

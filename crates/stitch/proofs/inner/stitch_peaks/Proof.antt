@@ -7,7 +7,7 @@ use lib.ListN.{length, drop, take}
 use lib.Seq.{length-take-le}
 use Rattle.record.specs.Record.{size}
 use Rattle.stitch.specs.Stitching.{numberIn, passGroups, secondRule}
-use Rattle.stitch.specs.StitchingLaws.{column-rest}
+use Rattle.stitch.proofs.StitchingLaws.{column-rest}
 use Rattle.stitch.proofs.Laws.{later, fewer, made-rest, second-groups, second-words, first-number, owned}
 use Rattle.stitch.proofs.inner.stitch_peaks.Statement.{statement}
 use Rattle.stitch.proofs.inner.stitch_peaks.Tie as tie

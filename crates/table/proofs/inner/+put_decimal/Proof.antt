@@ -1,5 +1,5 @@
 use Rattle.table.specs.Print.{decimal, digit}
-use Rattle.table.specs.Facts.{decimal-one, decimal-more, tenth-length}
+use Rattle.table.proofs.Facts.{decimal-one, decimal-more, tenth-length}
 use Rattle.table.proofs.Buffers.{put-one, put-next-byte}
 use mathlib.Core.Path.{refl}
 use Prim.Native.Nat.{_/_, _%_}

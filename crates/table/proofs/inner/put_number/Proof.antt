@@ -1,6 +1,6 @@
 use Rattle.table.specs.Print.{decimal}
 use Rattle.table.proofs.Buffers.{put-next-byte}
-use Rattle.table.specs.Facts.{digits-most}
+use Rattle.table.proofs.Facts.{digits-most}
 use native.Mathlib.Omega.{arith}
 use borrow.Author.Needs.{needs}
 use Rattle.table.proofs.inner.put_number.Statement.{statement}

@@ -1,5 +1,5 @@
 use Rattle.table.specs.Print.{peakLine, placesOf, floatsOf}
-use Rattle.table.specs.Facts.{places-most, floats-length}
+use Rattle.table.proofs.Facts.{places-most, floats-length}
 use Rattle.table.proofs.Buffers.{Put, put-next, put-front}
 use native.Mathlib.Nat.{zero-add}
 use mathlib.Core.Path.{_≡_, sym, _∙_, ap}

@@ -1,6 +1,6 @@
 use Rattle.table.specs.Print.{decimal, followed, placesOf}
 use Rattle.table.proofs.Buffers.{Put, put-next}
-use Rattle.table.specs.Facts.{number-most}
+use Rattle.table.proofs.Facts.{number-most}
 use native.Mathlib.Nat.{zero-add}
 use mathlib.Core.Path.{_∙_}
 use mathlib.Core.List.{_++_}

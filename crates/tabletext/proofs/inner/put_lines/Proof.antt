@@ -6,7 +6,7 @@ use borrow.Author.Needs.{needs}
 use borrow.Author.Tests.{not-true, not-false}
 use lib.ListN.{length, drop}
 use Rattle.numeric.proofs.Laws.{clash}
-use Rattle.table.specs.Lines.{lf-missing}
+use Rattle.table.proofs.Lines.{lf-missing}
 use Rattle.tabletext.specs.Bytes.{Put}
 use Rattle.tabletext.proofs.Laws.{put-none}
 use Rattle.tabletext.proofs.inner.put_lines.Statement.{statement}

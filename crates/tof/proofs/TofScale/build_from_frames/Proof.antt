@@ -5,11 +5,12 @@ use Prim.Native.Nat.{_≤_, _<_}
 use native.Mathlib.Omega.{arith}
 use borrow.Author.Needs.{needs}
 use Rattle.refusal.proofs.Walk.{Left, refused, past, accepted, by}
-use Rattle.refusal.specs.AnswersLaws.{says-number, says-values}
+use Rattle.refusal.proofs.AnswersLaws.{says-number, says-values}
 use Rattle.limits.specs.Limits.{maxTof}
 use Rattle.params.specs.Params.{allUpTo}
-use Rattle.tof.specs.TofAnswers.{buildChecks, buildNumber, build-number-is, buildAnswer}
-use Rattle.tof.specs.TofLaws.{step-above, up-to-highest}
+use Rattle.tof.specs.TofAnswers.{buildChecks, buildNumber, buildAnswer}
+use Rattle.tof.proofs.TofLaws.{build-number-is}
+use Rattle.tof.proofs.TofLaws.{step-above, up-to-highest}
 use Rattle.tof.proofs.TofScale.build_from_frames.Statement.{statement}
 use Rattle.tof.proofs.TofScale.build_from_frames.Tie as tie
 

@@ -1,7 +1,7 @@
-use Rattle.tof.specs.TofLaws.{scale-above}
+use Rattle.tof.proofs.TofLaws.{scale-above}
 use Rattle.tof.specs.TofAnswers.{binAnswer}
-use Rattle.tof.specs.TofLaws.{no-number, plain}
-use Rattle.refusal.specs.AnswersLaws.{says-number, says-values}
+use Rattle.tof.proofs.TofLaws.{no-number, plain}
+use Rattle.refusal.proofs.AnswersLaws.{says-number, says-values}
 use mathlib.Core.Path.{sym, _∙_}
 use borrow.Author.Needs.{needs}
 use Rattle.tof.proofs.TofScale.index_of_tof.Statement.{statement}

@@ -1,6 +1,6 @@
 use Rattle.tof.specs.TofAnswers.{rangeAnswer}
-use Rattle.tof.specs.TofLaws.{no-number}
-use Rattle.refusal.specs.AnswersLaws.{says-number, says-values}
+use Rattle.tof.proofs.TofLaws.{no-number}
+use Rattle.refusal.proofs.AnswersLaws.{says-number, says-values}
 use mathlib.Core.Path.{sym, _∙_}
 use borrow.Author.Needs.{needs}
 use Rattle.tof.proofs.TofScale.index_range_for_tof_window.Statement.{statement}

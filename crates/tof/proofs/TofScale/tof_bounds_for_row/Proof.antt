@@ -1,7 +1,7 @@
 use Rattle.tof.specs.Tof.{Sound}
 use Rattle.tof.specs.TofAnswers.{boundsAnswer}
-use Rattle.tof.specs.TofLaws.{no-number, bins-held}
-use Rattle.refusal.specs.AnswersLaws.{says-number, says-values}
+use Rattle.tof.proofs.TofLaws.{no-number, bins-held}
+use Rattle.refusal.proofs.AnswersLaws.{says-number, says-values}
 use borrow.Author.Tests.{ltb-true}
 use mathlib.Core.Path.{sym, _∙_}
 use Prim.Native.Nat.{_<_}

@@ -1,6 +1,6 @@
 use Rattle.tof.specs.Tof.{centerAtF, lastBin}
 use Rattle.numeric.specs.Numeric.{castF}
-use Rattle.tof.specs.TofLaws.{bins-held}
+use Rattle.tof.proofs.TofLaws.{bins-held}
 use Rattle.tof.proofs.Laws.{no-nan, below-last}
 use Prim.Native.Nat.{_<_}
 use native.Mathlib.Omega.{arith}

@@ -1,7 +1,8 @@
 use mathlib.Core.Path.{refl}
 use borrow.Author.Needs.{needs}
 use Rattle.refusal.proofs.Walk.{Left, refused, past, accepted, by}
-use Rattle.tof.specs.Tof.{scaleChecks, scaleNumber, scale-number-is}
+use Rattle.tof.specs.Tof.{scaleChecks, scaleNumber}
+use Rattle.tof.proofs.TofLaws.{scale-number-is}
 use Rattle.tof.proofs.inner.number.Statement.{statement}
 use Rattle.tof.proofs.inner.number.Tie as tie
 

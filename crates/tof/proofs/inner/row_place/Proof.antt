@@ -1,4 +1,4 @@
-use Rattle.tof.specs.TofLaws.{plain, edge-le}
+use Rattle.tof.proofs.TofLaws.{plain, edge-le}
 use native.Mathlib.Omega.{arith}
 use borrow.Author.Needs.{needs}
 use Rattle.tof.proofs.inner.row_place.Statement.{statement}

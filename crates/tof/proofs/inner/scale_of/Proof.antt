@@ -1,7 +1,7 @@
 use Prim.Native.Nat.{_%_}
 use Rattle.tof.specs.Tof.{scaleOf}
 use native.Mathlib.Nat.{div-le-self, mod-le}
-use Rattle.tof.specs.TofLaws.{rounded-rise}
+use Rattle.tof.proofs.TofLaws.{rounded-rise}
 use mathlib.Core.Path.{refl}
 use Prim.Native.Nat.{_-_}
 use native.Mathlib.Omega.{arith}

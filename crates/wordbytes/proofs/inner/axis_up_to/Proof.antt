@@ -9,7 +9,7 @@ use lib.Dec.{T, ltb, leb, eqb}
 use lib.ListN.{length, getD, drop, take, set}
 use lib.Ieee.{Float, nan, binary32, lt}
 use Rattle.wordbytes.specs.Bytes.{wordsOf}
-use Rattle.wordbytes.specs.BytesLaws.{words-length, word-get}
+use Rattle.wordbytes.proofs.BytesLaws.{words-length, word-get}
 use Rattle.wordbytes.proofs.Laws.{rising-up-to}
 use Rattle.wordbytes.proofs.inner.axis_up_to.Statement.{statement}
 use Rattle.wordbytes.proofs.inner.axis_up_to.Tie as tie

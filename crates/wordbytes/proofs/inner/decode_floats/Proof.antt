@@ -3,7 +3,7 @@ use lib.Seq.{getD-drop}
 use lib.Ieee.{ofBits}
 use Rattle.limits.specs.Limits.{maxReading}
 use Rattle.wordbytes.specs.Bytes.{floatsOf}
-use Rattle.wordbytes.specs.BytesLaws.{float-get, floats-length}
+use Rattle.wordbytes.proofs.BytesLaws.{float-get, floats-length}
 use Rattle.wordbytes.proofs.Laws.{fill-turn, fill-done, in-range-no-nan}
 use lib.ListN.{length-set, length-drop}
 use mathlib.Core.Path.{_≡_, refl, sym, _∙_, ap}

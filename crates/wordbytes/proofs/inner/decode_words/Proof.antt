@@ -1,6 +1,6 @@
 use Prim.Native.Nat.{_/_}
 use Rattle.wordbytes.specs.Bytes.{wordsOf}
-use Rattle.wordbytes.specs.BytesLaws.{word-get, words-length}
+use Rattle.wordbytes.proofs.BytesLaws.{word-get, words-length}
 use Rattle.wordbytes.proofs.Laws.{fill-turn, fill-done}
 use lib.ListN.{length-set}
 use mathlib.Core.Path.{_≡_, refl, sym, _∙_}

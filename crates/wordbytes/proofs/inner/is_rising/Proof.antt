@@ -4,7 +4,7 @@ use Rattle.numeric.proofs.Laws.{and-true, and-assoc}
 use Rattle.params.specs.Params.{rising, risingFrom}
 use Rattle.params.proofs.Laws.{rising-none, rising-start, rising-step, rising-end}
 use Rattle.wordbytes.specs.Bytes.{wordsOf}
-use Rattle.wordbytes.specs.BytesLaws.{words-length, word-get}
+use Rattle.wordbytes.proofs.BytesLaws.{words-length, word-get}
 use mathlib.Core.Path.{_≡_, refl, sym, _∙_, ap}
 use mathlib.Core.Bool.{Bool}
 use Prim.Native.Nat.{ℕ, _≤_, _-_, _+_}

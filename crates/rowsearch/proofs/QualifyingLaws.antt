@@ -5,21 +5,23 @@ use mathlib.Core.Bool.{Bool, true, false, cond, _&&_}
 use mathlib.Core.List.{List, [], _∷_, _++_, List·Memᴰ·not-nil, List·Memᴰ·cases-cons, List·Memᴰ·append-cases, List·Memᴰ·eq-of-singleton}
 use mathlib.Core.List.{List·Memᴰ·head as here, List·Memᴰ·tail as there, Memᴰ·append-left, Memᴰ·append-right}
 use mathlib.Core.Logic.{_⊎_, inl, inr, ⊎-elim}
-use Prim.Native.Nat.{ℕ, zero, suc, _+_, _-_, _*_, _/_, _≤_}
+use Prim.Native.Nat.{ℕ, zero, suc, _+_, _-_, _/_, _≤_}
 use native.Mathlib.Omega.{arith}
 use borrow.Author.Tests.{ltb-true, ltb-false}
 use lib.Dec.{ltb}
-use lib.ListN.{length, length-append}
+use lib.ListN.{length}
 use lib.Ieee.{Float, lt, le, isNan}
 use Rattle.numeric.specs.Arith.{at, 𝟎}
 use Rattle.numeric.proofs.Laws.{clash}
 use Rattle.numeric.proofs.Order.{lt-no-nan}
 use Rattle.apex.specs.Apex.{isCandidate, candidatesTo, candidates}
-use Rattle.apex.specs.Candidates.{Listed, one-more, none-more, count-to}
+use Rattle.apex.specs.Candidates.{Listed}
+use Rattle.apex.proofs.Candidates.{one-more, none-more, count-to}
 use Rattle.params.specs.Params.{mostPeaks}
 use Rattle.params.specs.declared.ImDetectParams.{ImDetectParams}
 use Rattle.rowsearch.specs.Suppression.{keep, keepAll}
-use Rattle.rowsearch.specs.Account.{_∈_, All, Ascending, NoNan, ascending-append, keepAll-append, kept-length}
+use Rattle.rowsearch.specs.Account.{_∈_, All, Ascending, NoNan}
+use Rattle.rowsearch.proofs.Account.{ascending-append, keepAll-append, kept-length}
 use Rattle.rowsearch.specs.Qualifying.{highest, reaches, qualifies, thatQualify, qualifying, kept}
 
 -- ---- the qualifying apexes

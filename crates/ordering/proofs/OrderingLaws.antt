@@ -12,7 +12,7 @@ use lib.ListN.{length, getD}
 use Rattle.numeric.proofs.Laws.{clash}
 use Rattle.record.specs.Record.{size, idAt, peakAt, peakFrom}
 use Rattle.matching.specs.Keys.{keyLt, numbers, lexLt, firstKey, secondKey}
-use Rattle.matching.specs.KeyLaws.{transitive, asymmetric, same-numbers}
+use Rattle.matching.proofs.KeyLaws.{transitive, asymmetric, same-numbers}
 use Rattle.matching.specs.declared.inner.Key.{Key}
 use Rattle.ordering.specs.declared.inner.KeyRule.{KeyRule}
 use Rattle.ordering.specs.Ordering.{keyAt, inserted, sortedBy, Ascending, Within}

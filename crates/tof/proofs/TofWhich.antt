@@ -6,7 +6,8 @@ use Prim.Native.Nat.{ℕ}
 use lib.Dec.{eqb}
 use lib.Ieee.{Float}
 use Rattle.refusal.specs.Answers.{answerBy}
-use Rattle.refusal.specs.AnswersLaws.{fromOption, fromSays, which}
+use Rattle.refusal.specs.AnswersLaws.{fromOption, fromSays}
+use Rattle.refusal.proofs.AnswersLaws.{which}
 use Rattle.tof.specs.declared.TofScale.{TofScale}
 use Rattle.tof.specs.declared.inner.Span.{Span}
 use Rattle.tof.specs.declared.BuildAnswer.{BuildAnswer}

@@ -5,13 +5,18 @@ use mathlib.Core.List.{List}
 use Prim.Native.Nat.{ℕ, _<_}
 use lib.Dec.{eqb}
 use lib.Ieee.{Float}
-use Rattle.refusal.specs.Refusal.{ascendingFrom, Lowest}
-use Rattle.refusal.specs.RefusalLaws.{lowest-by, none-by, appliesFor}
+use Rattle.refusal.specs.Refusal.{firstOf, ascendingFrom, Lowest}
+use Rattle.refusal.proofs.RefusalLaws.{lowest-by, none-by, appliesFor}
 use Rattle.refusal.specs.Answers.{answerBy}
-use Rattle.refusal.specs.AnswersLaws.{fromSays, which}
+use Rattle.refusal.specs.AnswersLaws.{fromSays}
+use Rattle.refusal.proofs.AnswersLaws.{which}
 use Rattle.area.specs.declared.AreaAnswer.{AreaAnswer}
 use Rattle.area.specs.declared.AreaAnswer.the-variants.{Area, Refused}
-use Rattle.area.specs.Area.{areaChecks, areaNumber, number-is, areaSays}
+use Rattle.area.specs.Area.{areaChecks, areaNumber, areaSays}
+
+pub number-is : (y : List Float) (x0 x1 : Float) → areaNumber y x0 x1 ≡ firstOf (areaChecks y x0 x1)
+unfolding areaNumber
+number-is y x0 x1 = refl
 
 module _ (y : List Float) (x0 x1 : Float) where
   ascending : ascendingFrom 0 (areaChecks y x0 x1) ≡ true

@@ -3,14 +3,19 @@ use mathlib.Core.Path.{_≡_, refl}
 use mathlib.Core.Bool.{true, false, cond}
 use Prim.Native.Nat.{ℕ, _<_}
 use lib.Dec.{eqb}
-use Rattle.refusal.specs.Refusal.{ascendingFrom, Lowest}
-use Rattle.refusal.specs.RefusalLaws.{lowest-by, none-by, appliesFor}
+use Rattle.refusal.specs.Refusal.{firstOf, ascendingFrom, Lowest}
+use Rattle.refusal.proofs.RefusalLaws.{lowest-by, none-by, appliesFor}
 use Rattle.refusal.specs.Answers.{answerBy}
-use Rattle.refusal.specs.AnswersLaws.{fromSays, which}
+use Rattle.refusal.specs.AnswersLaws.{fromSays}
+use Rattle.refusal.proofs.AnswersLaws.{which}
 use Rattle.grid.specs.Grid.{Grid}
-use Rattle.grid.specs.GridNumber.{gridChecks, gridNumber, number-is, gridSays}
+use Rattle.grid.specs.GridNumber.{gridChecks, gridNumber, gridSays}
 use Rattle.grid.specs.declared.GridAnswer.{GridAnswer}
 use Rattle.grid.specs.declared.GridAnswer.the-variants.{Peaks, Refused}
+
+pub number-is : (g : Grid) (rows room scratch : ℕ) → gridNumber g rows room scratch ≡ firstOf (gridChecks g rows room scratch)
+unfolding gridNumber
+number-is g rows room scratch = refl
 
 module _ (g : Grid) (rows room scratch : ℕ) where
   ascending : ascendingFrom 0 (gridChecks g rows room scratch) ≡ true

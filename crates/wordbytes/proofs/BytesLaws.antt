@@ -9,7 +9,7 @@ use borrow.Author.Tests.{ltb-true, ltb-false}
 use lib.Dec.{ltb}
 use lib.ListN.{length, getD, take, drop, length-append, length-take, length-drop, List·getD-append, length-map}
 use lib.Seq.{getD-at}
-use lib.Ieee.{Float, nan, binary32, ofBits}
+use lib.Ieee.{nan, binary32, ofBits}
 use Rattle.numeric.specs.Arith.{at}
 use Rattle.wordbytes.specs.Bytes.{wordAt, wordsTo, wordsOf, floatsOf, bytesOfWord, bytesOf}
 

@@ -1,6 +1,6 @@
 -- What the definitions of the scale come to, for a reader and for the proofs. Assumes nothing.
 use mathlib.Core.Path.{_≡_, refl, sym, _∙_, ap, subst}
-use mathlib.Core.Bool.{Bool, true, false, cond, not, _&&_}
+use mathlib.Core.Bool.{Bool, true, false, cond, _&&_}
 use mathlib.Core.List.{List, [], _∷_}
 use mathlib.Core.Option.{Option, none, some}
 use Prim.Native.Nat.{ℕ, zero, suc, _+_, _-_, _*_, _/_, _%_, _≤_, _<_, min, max}
@@ -10,8 +10,8 @@ use borrow.Author.Tests.{leb-true, leb-false, le-leb, lt-leb, lt-ltb, ltb-true, 
 use lib.Dec.{leb, ltb, eqb}
 use lib.ListN.{length, getD}
 use Rattle.refusal.specs.Refusal.{firstOf, ascendingFrom, Lowest}
-use Rattle.refusal.specs.RefusalLaws.{lowest-by, none-by, appliesFor}
-use Rattle.refusal.specs.Bools.{clash, both, all5}
+use Rattle.refusal.proofs.RefusalLaws.{lowest-by, none-by, appliesFor}
+use Rattle.refusal.proofs.Bools.{clash, both, all5}
 use Rattle.refusal.specs.Answers.{Says}
 use Rattle.refusal.specs.AnswersLaws.{fromOption}
 use Rattle.limits.specs.Limits.{maxStep, maxTof, maxRows, maxTofBound}
@@ -19,10 +19,14 @@ use Rattle.params.specs.Params.{allUpTo, soundTof}
 use Rattle.tof.specs.declared.TofScale.{TofScale}
 use Rattle.tof.specs.declared.inner.Span.{Span}
 use Rattle.tof.specs.declared.BuildAnswer.{BuildAnswer}
-use Rattle.tof.specs.TofAnswers.{buildChecks, buildNumber, build-number-is, scaleFrom, buildSays, buildAnswer}
-use Rattle.tof.specs.Tof.{Sound, edge, inScale, binOf, lastBin, windowBetween, windowBins, rowPlace, soundStep, soundEnds, agreeing, scaleChecks, scaleNumber, scale-number-is, lowest, highest, rounded, scaleOf}
+use Rattle.tof.specs.TofAnswers.{buildChecks, buildNumber, buildSays, buildAnswer}
+use Rattle.tof.specs.Tof.{Sound, edge, inScale, binOf, lastBin, windowBetween, windowBins, rowPlace, soundStep, soundEnds, agreeing, scaleChecks, scaleNumber, lowest, highest, rounded, scaleOf}
 
 -- ---- numbers
+
+pub scale-number-is : (s : TofScale) (value tofs : Bool) → scaleNumber s value tofs ≡ firstOf (scaleChecks s value tofs)
+unfolding scaleNumber
+scale-number-is s value tofs = refl
 
 module _ (s : TofScale) (value tofs : Bool) where
   ascending : ascendingFrom 0 (scaleChecks s value tofs) ≡ true
@@ -36,6 +40,10 @@ module _ (s : TofScale) (value tofs : Bool) where
   -- where it is 0, the check with the number n does not apply
   none-for : (n : ℕ) → scaleNumber s value tofs ≡ 0 → appliesFor n (scaleChecks s value tofs) ≡ false
   none-for n z = none-by n (scaleChecks s value tofs) (scale-number-is s value tofs) ascending z
+
+pub build-number-is : (tofs : List ℕ) (step : ℕ) → buildNumber tofs step ≡ firstOf (buildChecks tofs step)
+unfolding buildNumber
+build-number-is tofs step = refl
 
 module _ (ts : List ℕ) (step : ℕ) where
   build-ascending : ascendingFrom 0 (buildChecks ts step) ≡ true

@@ -13,11 +13,12 @@ use lib.Ieee.Fits.{cond-fits, add-fits, div-fits, ofInt-fits}
 use Rattle.numeric.specs.Arith.{_⊕_, 𝟎}
 use Rattle.numeric.specs.Numeric.{maxF}
 use Rattle.record.specs.Record.{size, peakFrom, peakAt, withPeak, hasMobility}
-use Rattle.record.specs.RoundTrip.{FloatsFit, read-fits, got-back}
+use Rattle.record.specs.RoundTrip.{FloatsFit}
+use Rattle.record.proofs.RoundTrip.{read-fits, got-back}
 use Rattle.record.specs.declared.ImPeak1D.{ImPeak1D}
 use Rattle.merging.specs.Merging.{merged, highestF, summed, having, firstOf, firstMobility, anySigma, meanSigma}
 use Rattle.grouping.specs.Grouping.{peaksAt, mergedWords, groupWords}
-use Rattle.grouping.specs.GroupingLaws.{words-length, words-append}
+use Rattle.grouping.proofs.GroupingLaws.{words-length, words-append}
 
 -- a list with its middle part put where it stands
 between : {A : Type 0} (l P W Q : List A) (a r : ℕ) → length P ≡ a → length W ≡ r → l ≡ P ++ (W ++ Q) → l ≡ take a l ++ (W ++ drop (a + r) l)

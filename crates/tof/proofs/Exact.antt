@@ -14,7 +14,7 @@ use Rattle.limits.specs.Limits.{maxTofBound}
 use Rattle.numeric.specs.Arith.{_⊕_, _⊗_, ½, indexF}
 use Rattle.tof.specs.declared.TofScale.{TofScale}
 use Rattle.tof.specs.Tof.{Sound, edge, centerF}
-use Rattle.tof.specs.TofLaws.{edges-held, upper-edge}
+use Rattle.tof.proofs.TofLaws.{edges-held, upper-edge}
 
 -- a fraction that is q times a power of 2, for a q of at most 24 binary digits
 rounds : (num den q j : ℕ) → 0 < den → q < 2 ^ 24 → j ≤ 149 → num * 2 ^ 149 ≡ q * 2 ^ j * den → HasValue (round binary32 false num den) false num den

@@ -5,14 +5,19 @@ use mathlib.Core.List.{List}
 use Prim.Native.Nat.{ℕ, _<_}
 use lib.Dec.{eqb}
 use lib.Ieee.{Float}
-use Rattle.refusal.specs.Refusal.{ascendingFrom, Lowest}
-use Rattle.refusal.specs.RefusalLaws.{lowest-by, none-by, appliesFor}
+use Rattle.refusal.specs.Refusal.{firstOf, ascendingFrom, Lowest}
+use Rattle.refusal.proofs.RefusalLaws.{lowest-by, none-by, appliesFor}
 use Rattle.refusal.specs.Answers.{answerBy}
-use Rattle.refusal.specs.AnswersLaws.{fromSays, which}
+use Rattle.refusal.specs.AnswersLaws.{fromSays}
+use Rattle.refusal.proofs.AnswersLaws.{which}
 use Rattle.smoothing.specs.declared.SmoothAnswer.{SmoothAnswer}
 use Rattle.smoothing.specs.declared.SmoothAnswer.the-variants.{Smoothed, Refused}
 use Rattle.smoothing.specs.Answer.{smoothSays}
-use Rattle.smoothing.specs.Smoothing.{smoothChecks, smoothNumber, number-is}
+use Rattle.smoothing.specs.Smoothing.{smoothChecks, smoothNumber}
+
+pub number-is : (v ws : List Float) (scratch : ℕ) → smoothNumber v ws scratch ≡ firstOf (smoothChecks v ws scratch)
+unfolding smoothNumber
+number-is v ws scratch = refl
 
 module _ (v ws : List Float) (scratch : ℕ) where
   ascending : ascendingFrom 0 (smoothChecks v ws scratch) ≡ true

@@ -6,7 +6,7 @@ use native.Mathlib.Omega.{arith}
 use lib.ListN.{length, length-append}
 use lib.Ieee.{Float}
 use Rattle.record.specs.Record.{size}
-use Rattle.record.specs.RoundTrip.{words-length}
+use Rattle.record.proofs.RoundTrip.{words-length}
 use Rattle.params.specs.declared.RowPlace.{RowPlace}
 use Rattle.params.specs.declared.FrameBounds.{FrameBounds}
 use Rattle.row.specs.Row.{peakOf, rowWords}

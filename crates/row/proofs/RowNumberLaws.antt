@@ -5,16 +5,21 @@ use mathlib.Core.List.{List}
 use Prim.Native.Nat.{ℕ, _<_}
 use lib.Dec.{eqb}
 use lib.Ieee.{Float}
-use Rattle.refusal.specs.Refusal.{ascendingFrom, Lowest}
-use Rattle.refusal.specs.RefusalLaws.{lowest-by, none-by, appliesFor}
+use Rattle.refusal.specs.Refusal.{firstOf, ascendingFrom, Lowest}
+use Rattle.refusal.proofs.RefusalLaws.{lowest-by, none-by, appliesFor}
 use Rattle.refusal.specs.Answers.{answerBy}
-use Rattle.refusal.specs.AnswersLaws.{fromSays, which}
+use Rattle.refusal.specs.AnswersLaws.{fromSays}
+use Rattle.refusal.proofs.AnswersLaws.{which}
 use Rattle.params.specs.declared.ImDetectParams.{ImDetectParams}
 use Rattle.params.specs.declared.RowPlace.{RowPlace}
 use Rattle.params.specs.declared.FrameBounds.{FrameBounds}
 use Rattle.row.specs.declared.RowAnswer.{RowAnswer}
 use Rattle.row.specs.declared.RowAnswer.the-variants.{Peaks, Refused}
-use Rattle.row.specs.RowNumber.{rowChecks, rowNumber, number-is, rowSays}
+use Rattle.row.specs.RowNumber.{rowChecks, rowNumber, rowSays}
+
+pub number-is : (y z : List Float) (r : RowPlace) (f : FrameBounds) (mobility : List Float) (p : ImDetectParams) (axis : List ℕ) (first room : ℕ) → rowNumber y z r f mobility p axis first room ≡ firstOf (rowChecks y z r f mobility p axis first room)
+unfolding rowNumber
+number-is y z r f mobility p axis first room = refl
 
 module _ (y z : List Float) (r : RowPlace) (f : FrameBounds) (mobility : List Float) (p : ImDetectParams) (axis : List ℕ) (first room : ℕ) where
   ascending : ascendingFrom 0 (rowChecks y z r f mobility p axis first room) ≡ true

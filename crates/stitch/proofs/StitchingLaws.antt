@@ -17,10 +17,10 @@ use Rattle.numeric.proofs.Laws.{clash}
 use Rattle.record.specs.Record.{size}
 use Rattle.matching.specs.declared.StitchParams.{StitchParams}
 use Rattle.ordering.specs.Ordering.{keyAt, sortedBy, Within}
-use Rattle.ordering.specs.OrderingLaws.{sort-length, sort-keeps, sort-given, sort-distinct}
+use Rattle.ordering.proofs.OrderingLaws.{sort-length, sort-keeps, sort-given, sort-distinct}
 use Rattle.ordering.specs.declared.inner.KeyRule.{KeyRule}
 use Rattle.grouping.specs.Grouping.{groups, marked, Columned}
-use Rattle.grouping.specs.GroupingLaws.{groups-flatten, groups-count, marked-length, member-number, other-number}
+use Rattle.grouping.proofs.GroupingLaws.{groups-flatten, groups-count, marked-length, member-number, other-number}
 use Rattle.stitch.specs.Stitching.{upTo, passGroups, has, numberIn, firstRule, secondRule, firstGroups, mergedList, secondGroups}
 
 -- ---- the places up to n

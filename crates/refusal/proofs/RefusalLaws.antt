@@ -7,7 +7,7 @@ use native.Mathlib.Omega.{arith}
 use borrow.Author.Tests.{not-true, eq-eqb, ne-eqb, ltb-true}
 use lib.Dec.{eqb, ltb}
 use Rattle.refusal.specs.Refusal.{Check, firstOf, clear, refuses, ascendingFrom, Lowest}
-use Rattle.refusal.specs.Bools.{clash, both, and-false}
+use Rattle.refusal.proofs.Bools.{clash, both, and-false}
 
 -- ---- one check
 
