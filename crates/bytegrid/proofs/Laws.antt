@@ -24,10 +24,10 @@ use Rattle.smoothrow.specs.SmoothRow.{soundOrNone}
 use Rattle.row.specs.Row.{scanAt, mobilityAt, mobilityFlag}
 use Rattle.row.specs.Written.{withRecord}
 use Rattle.row.proofs.Laws.{mobility-in, mobility-out, flag-none, flag-some}
-use Rattle.grid.specs.Grid.{Grid}
-use Rattle.grid.specs.Steps.{numbered, Done}
-use Rattle.grid.proofs.Laws.{count-bound}
-use Rattle.grid.proofs.Laws as grid
+use Rattle.gridrows.specs.Grid.{Grid}
+use Rattle.gridrows.specs.Steps.{numbered, Done}
+use Rattle.gridrows.proofs.Laws.{count-bound}
+use Rattle.gridrows.proofs.Laws as grid
 use Rattle.wordbytes.specs.Bytes.{wordAt, wordsOf, floatsOf, bytesOf}
 use Rattle.wordbytes.proofs.BytesLaws.{words-length, word-get, floats-length, float-get}
 use Rattle.bytegrid.specs.ByteGrid.{asBytes}

@@ -6,8 +6,8 @@ use Rattle.params.specs.declared.ImDetectParams.{ImDetectParams}
 use Rattle.params.specs.declared.FrameBounds.{FrameBounds}
 use Rattle.tof.specs.declared.TofScale.{TofScale}
 use Rattle.row.specs.Written.{Written}
-use Rattle.grid.specs.Grid.{Grid}
-use Rattle.grid.specs.Steps.{gridOf, Ready}
+use Rattle.gridrows.specs.Grid.{Grid}
+use Rattle.gridrows.specs.Steps.{gridOf, Ready}
 use Rattle.wordbytes.specs.Bytes.{wordsOf, floatsOf, bytesOf}
 use Rattle.wordbytes.proofs.BytesLaws.{bytes-append, bytes-length}
 

@@ -11,7 +11,7 @@ ghost use Prim.Native.Nat.{_<_, _+_, _*_, _/_};
 ghost use lib.ListN.{length};
 ghost use Rattle.smoothing.specs.Smoothing.{normalised};
 ghost use Rattle.row.specs.Steps as row;
-ghost use Rattle.grid.specs.Steps.{gridOf, Handed, Listed, Lent, RowReady, RowDone, Ready, Done};
+ghost use Rattle.gridrows.specs.Steps.{gridOf, Handed, Listed, Lent, RowReady, RowDone, Ready, Done};
 ghost use Rattle.wordbytes.specs.Bytes.{wordsOf, floatsOf};
 ghost use Rattle.bytegrid.specs.ByteGrid.{asBytes};
 

@@ -6,7 +6,7 @@ use record::PeakId;
 use tof::TofScale;
 ghost use Prim.Native.Nat.{_≤_, _<_, _+_, _*_, _/_};
 ghost use lib.ListN.{length};
-ghost use Rattle.grid.specs.Steps.{Done};
+ghost use Rattle.gridrows.specs.Steps.{Done};
 ghost use Rattle.bytegrid.specs.ByteGrid.{asBytes, byteGrid};
 ghost use Rattle.bytegrid.specs.ByteGrid.{Fit};
 

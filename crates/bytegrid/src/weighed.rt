@@ -7,7 +7,7 @@ ghost use mathlib.Core.Path.{_≡_};
 ghost use mathlib.Core.List.{[]};
 ghost use Prim.Native.Nat.{_≤_, _/_};
 ghost use lib.ListN.{length};
-ghost use Rattle.grid.specs.Steps.{gridOf, Lent, Ready, Done};
+ghost use Rattle.gridrows.specs.Steps.{gridOf, Lent, Ready, Done};
 ghost use Rattle.wordbytes.specs.Bytes.{wordsOf, floatsOf};
 ghost use Rattle.bytegrid.specs.ByteGrid.{asBytes, byteGrid};
 

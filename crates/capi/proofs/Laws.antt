@@ -14,9 +14,9 @@ use Rattle.limits.specs.Limits.{maxWeight}
 use Rattle.numeric.specs.Numeric.{allInRange}
 use Rattle.smoothing.specs.Smoothing.{soundWeights}
 use Rattle.smoothrow.specs.SmoothRow.{soundOrNone}
-use Rattle.grid.specs.Grid.{Grid, countTo}
+use Rattle.gridrows.specs.Grid.{Grid, countTo}
 use Rattle.grid.specs.GridNumber.{gridChecks, gridNumber}
-use Rattle.grid.specs.Steps.{Done}
+use Rattle.gridrows.specs.Steps.{Done}
 use Rattle.grid.proofs.Laws as grid
 use Rattle.bytegrid.specs.ByteGrid.{asBytes}
 use Rattle.capi.specs.Entry.{also, entryChecks, entryNumber, Answered}

@@ -13,7 +13,7 @@ use Rattle.params.specs.declared.WindowGroup.{WindowGroup}
 use Rattle.params.specs.declared.WindowGroup.the-variants.{Missing, Group}
 use Rattle.tof.specs.declared.TofScale.{TofScale}
 use Rattle.row.specs.Written.{stride}
-use Rattle.grid.specs.Grid.{Grid, countTo, wordsTo}
+use Rattle.gridrows.specs.Grid.{Grid, countTo, wordsTo}
 use Rattle.grid.specs.GridNumber.{gridChecks}
 use Rattle.wordbytes.specs.Bytes.{bytesOf}
 use Rattle.bytegrid.specs.ByteGrid.{asBytes}

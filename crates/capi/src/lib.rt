@@ -1,5 +1,5 @@
 // Grid detection as a C function on numbers and byte slices.
-use grid::inner::Seen;
+use grid::numbers::Seen;
 use params::FrameBounds;
 use params::ImDetectParams;
 use params::WindowGroup;
@@ -77,7 +77,7 @@ fn call_number(
         return 1;
     }
     let seen = see(used, scans, mobility, weights);
-    let n = grid::inner::number(seen, rows, cols, scale, bounds, p, first, room / 4, cols);
+    let n = grid::numbers::number(seen, rows, cols, scale, bounds, p, first, room / 4, cols);
     if (flag > 1) & ((n == 0) | (n > 4)) {
         return 4;
     }

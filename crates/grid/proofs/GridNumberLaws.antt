@@ -8,7 +8,7 @@ use Rattle.refusal.proofs.RefusalLaws.{lowest-by, none-by, appliesFor}
 use Rattle.refusal.specs.Answers.{answerBy}
 use Rattle.refusal.specs.AnswersLaws.{fromSays}
 use Rattle.refusal.proofs.AnswersLaws.{which}
-use Rattle.grid.specs.Grid.{Grid}
+use Rattle.gridrows.specs.Grid.{Grid}
 use Rattle.grid.specs.GridNumber.{gridChecks, gridNumber, gridSays}
 use Rattle.grid.specs.declared.GridAnswer.{GridAnswer}
 use Rattle.grid.specs.declared.GridAnswer.the-variants.{Peaks, Refused}

@@ -11,9 +11,9 @@ use Rattle.params.specs.Params.{soundParams, soundBounds, allUpTo, rising, risi
 use Rattle.params.specs.declared.WindowGroup.the-variants.{Missing}
 use Rattle.smoothing.specs.Smoothing.{soundWeights}
 use Rattle.tof.specs.Tof.{soundStep, soundEnds, agreeing}
-use Rattle.grid.specs.Grid.{Grid}
+use Rattle.gridrows.specs.Grid.{Grid}
 use Rattle.grid.specs.GridNumber.{gridNumber}
-use Rattle.grid.specs.Steps.{callGrid}
+use Rattle.gridrows.specs.Steps.{callGrid}
 
 -- TOF values from 0 on with step 1, so that `bins` rows end at `top`; floor, distances and frames are 0
 abbrev grid : ℕ → ℕ → List ℕ → List ℕ → List ℕ → List Float → ℕ → Grid

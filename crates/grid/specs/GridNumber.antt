@@ -17,8 +17,8 @@ use Rattle.params.specs.declared.FrameBounds.{FrameBounds}
 use Rattle.smoothrow.specs.SmoothRow.{soundOrNone}
 use Rattle.tof.specs.Tof.{soundStep, soundEnds, agreeing}
 use Rattle.tof.specs.declared.TofScale.{TofScale}
-use Rattle.grid.specs.Grid.{Grid}
-use Rattle.grid.specs.declared.inner.Seen.{Seen}
+use Rattle.gridrows.specs.Grid.{Grid}
+use Rattle.grid.specs.declared.numbers.Seen.{Seen}
 use Rattle.grid.specs.declared.GridAnswer.{GridAnswer}
 use Rattle.grid.specs.declared.GridAnswer.the-variants.{Peaks, Refused}
 

@@ -1,7 +1,7 @@
 // Detection over all rows of a TOF grid.
-pub mod inner;
+pub mod numbers;
 
-use inner::Seen;
+use numbers::Seen;
 use params::FrameBounds;
 use params::ImDetectParams;
 use record::PeakId;
@@ -11,9 +11,10 @@ ghost use lib.ListN.{length};
 ghost use Rattle.limits.specs.Limits.{maxReading};
 ghost use Rattle.numeric.specs.Numeric.{allInRange};
 ghost use Rattle.smoothrow.specs.SmoothRow.{soundOrNone};
-ghost use Rattle.grid.specs.Grid.{usedOf};
+ghost use Rattle.gridrows.specs.Grid.{usedOf};
 ghost use Rattle.grid.specs.GridNumber.{seenIn};
-ghost use Rattle.grid.specs.Steps.{callGrid, Answered};
+ghost use Rattle.gridrows.specs.Steps.{callGrid};
+ghost use Rattle.grid.specs.Answer.{Answered};
 
 pub enum GridAnswer {
     Peaks(usize),
@@ -80,7 +81,7 @@ pub fn detect_im_peaks_from_tof_scan_grid<'a>(
     ensures { λ r. ⌜ Answered (callGrid cols (now («data_raw» .entry)) (now («data» .entry)) (now (scans .entry)) scale bounds (now (mobility .entry)) p (now (weights .entry)) first) rows (now (out .entry)) (now (out .exit)) (now (scratch .entry)) (now (scratch .exit)) r ⌝ }
 {
     let seen = see(data_raw, data, scans, mobility, weights);
-    let no = inner::number(
+    let no = numbers::number(
         seen,
         rows,
         cols,
@@ -92,7 +93,7 @@ pub fn detect_im_peaks_from_tof_scan_grid<'a>(
         scratch.len(),
     );
     if no == 0 {
-        return GridAnswer::Peaks(inner::detect(
+        return GridAnswer::Peaks(gridrows::sized::detect(
             data_raw,
             data,
             cols,

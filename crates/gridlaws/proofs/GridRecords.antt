@@ -20,8 +20,8 @@ use Rattle.smoothrow.proofs.Laws.{searched-fits}
 use Rattle.rowlaws.specs.RowRecords.{nth}
 use Rattle.rowlaws.proofs.RowRecords.{bears, record-at, kept-ascend}
 use Rattle.tof.specs.Tof.{rowPlace}
-use Rattle.grid.specs.Grid.{Grid, rowOf, searchedOf, listedIn, wordsIn, countFrom, wordsFrom, countTo, wordsTo}
-use Rattle.grid.proofs.Laws.{words-length}
+use Rattle.gridrows.specs.Grid.{Grid, rowOf, searchedOf, listedIn, wordsIn, countFrom, wordsFrom, countTo, wordsTo}
+use Rattle.gridrows.proofs.Laws.{words-length}
 use Rattle.gridlaws.specs.GridRecords.{Bears, RowsBear, Placed, AllPlaced, Before, RowsAscend, RowsWhole}
 
 -- ---- counts and words, row after row

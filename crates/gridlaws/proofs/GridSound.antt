@@ -28,9 +28,9 @@ use Rattle.rowlaws.proofs.RowRecords.{one-of}
 use Rattle.rowlaws.proofs.RowSound.{peaks-sound}
 use Rattle.tof.specs.Tof.{rowPlace}
 use Rattle.tof.proofs.TofLaws.{row-held}
-use Rattle.grid.specs.Grid.{Grid, rowOf, searchedOf, listedIn, countTo, wordsTo}
+use Rattle.gridrows.specs.Grid.{Grid, rowOf, searchedOf, listedIn, countTo, wordsTo}
 use Rattle.grid.specs.GridNumber.{gridChecks, gridNumber}
-use Rattle.grid.specs.Steps.{Ready}
+use Rattle.gridrows.specs.Steps.{Ready}
 use Rattle.grid.proofs.Laws as grids
 use Rattle.gridlaws.specs.GridRecords.{Placed}
 use Rattle.gridlaws.specs.GridSound.{Accepted, GridSound, FrontSound}

@@ -17,9 +17,9 @@ use Rattle.rowsearch.specs.Suppression.{keep, keepAll}
 use Rattle.rowsearch.specs.Qualifying.{highest, leftX, rightX, width, qualifies, thatQualify, qualifying, kept}
 use Rattle.smoothrow.specs.SmoothRow.{searched}
 use Rattle.tof.specs.Tof.{soundStep, soundEnds, agreeing}
-use Rattle.grid.specs.Grid.{Grid, listedIn, countFrom, countTo}
+use Rattle.gridrows.specs.Grid.{Grid, listedIn, countFrom, countTo}
 use Rattle.grid.specs.GridNumber.{gridNumber}
-use Rattle.grid.specs.Steps.{gridOf}
+use Rattle.gridrows.specs.Steps.{gridOf}
 
 -- floor, distance, width and frames are 0, and nothing is smoothed
 abbrev grid : Grid

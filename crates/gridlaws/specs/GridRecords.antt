@@ -11,7 +11,7 @@ use Rattle.record.specs.Record.{peakAt}
 use Rattle.row.specs.Row.{peakOf}
 use Rattle.rowlaws.specs.RowRecords.{nth}
 use Rattle.tof.specs.Tof.{rowPlace}
-use Rattle.grid.specs.Grid.{Grid, rowOf, searchedOf, listedIn, countTo, wordsTo}
+use Rattle.gridrows.specs.Grid.{Grid, rowOf, searchedOf, listedIn, countTo, wordsTo}
 
 -- the peak p is listed: it bears row r, the k-th apex that is listed there, and its identity
 pub record Bears (g : Grid) (r k : ℕ) (p : ImPeak1D) : Type 0 where

@@ -5,7 +5,7 @@ use mathlib.Core.List.{List, _++_}
 use Prim.Native.Nat.{ℕ}
 use Rattle.numeric.specs.Plain.{AllFit}
 use Rattle.record.specs.Record.{allSound}
-use Rattle.grid.specs.Grid.{Grid, countTo, wordsTo}
+use Rattle.gridrows.specs.Grid.{Grid, countTo, wordsTo}
 use Rattle.grid.specs.GridNumber.{gridNumber}
 
 -- A grid that no number refuses. Its floats are binary32 values, as every f32 is; owning a slice of them does not tell it

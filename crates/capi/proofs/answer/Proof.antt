@@ -1,5 +1,5 @@
 use Prim.Native.Nat.{_/_}
-use Rattle.grid.specs.Grid.{Grid}
+use Rattle.gridrows.specs.Grid.{Grid}
 use Rattle.capi.specs.Entry.{allWhole, entryNumber}
 use Rattle.bytegrid.specs.ByteGrid.{byteGrid}
 use Rattle.bytegrid.specs.ByteGrid.{Fit}

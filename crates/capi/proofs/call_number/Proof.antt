@@ -4,7 +4,7 @@ use Prim.Native.Nat.{ℕ, _/_}
 use borrow.Author.Needs.{needs}
 use borrow.Author.Tests.{not-true, not-false}
 use lib.ListN.{length}
-use Rattle.grid.specs.Grid.{Grid}
+use Rattle.gridrows.specs.Grid.{Grid}
 use Rattle.grid.specs.GridNumber.{gridNumber}
 use Rattle.grid.proofs.Laws.{seen-number}
 use Rattle.capi.specs.Entry.{entryNumber, allWhole}

@@ -8,15 +8,15 @@ use borrow.Author.Needs.{needs}
 use lib.Dec.{T, ltb, leb, eqb}
 use lib.ListN.{length, getD, drop, take, set}
 use lib.Ieee.{Float, nan, binary32, lt}
-use Rattle.grid.specs.Grid.{Grid}
-use Rattle.grid.specs.Steps.{callGrid}
+use Rattle.gridrows.specs.Grid.{Grid}
+use Rattle.gridrows.specs.Steps.{callGrid}
 use Rattle.grid.proofs.Laws.{seen-number, accepted, answered, refused}
 use Rattle.grid.proofs.detect_im_peaks_from_tof_scan_grid.Statement.{statement}
 use Rattle.grid.proofs.detect_im_peaks_from_tof_scan_grid.Tie as tie
 use Rattle.grid.proofs.detect_im_peaks_from_tof_scan_grid.Reads as reads
 use Rattle.grid.proofs.detect_im_peaks_from_tof_scan_grid.Lts as lts
-use Rattle.grid.proofs.inner.detect.Reads as detect-reads
-use Rattle.grid.proofs.inner.number.Reads as number-reads
+use Rattle.gridrows.proofs.sized.detect.Reads as detect-reads
+use Rattle.grid.proofs.numbers.number.Reads as number-reads
 use Rattle.grid.proofs.see.Reads as see-reads
 
 -- the grid of the arguments

@@ -1,5 +1,5 @@
 use Rattle.numeric.specs.Numeric.{allInRange}
-use Rattle.grid.proofs.Laws.{smooth-used, raw-used}
+use Rattle.gridrows.proofs.Laws.{smooth-used, raw-used}
 use mathlib.Core.Path.{sym, _∙_, ap}
 use borrow.Author.Needs.{needs}
 use Rattle.grid.proofs.sound_readings.Statement.{statement}

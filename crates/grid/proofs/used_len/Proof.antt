@@ -1,4 +1,4 @@
-use Rattle.grid.proofs.Laws.{smooth-used, raw-used}
+use Rattle.gridrows.proofs.Laws.{smooth-used, raw-used}
 use mathlib.Core.Path.{sym, ap}
 use lib.ListN.{length}
 use Rattle.grid.proofs.used_len.Statement.{statement}

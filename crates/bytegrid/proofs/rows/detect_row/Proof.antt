@@ -10,9 +10,9 @@ use lib.ListN.{length, getD, drop, take, set}
 use lib.Ieee.{Float, nan, binary32, lt}
 use Rattle.wordbytes.specs.Bytes.{wordsOf, floatsOf}
 use Rattle.wordbytes.proofs.BytesLaws.{floats-length}
-use Rattle.grid.specs.Grid.{Grid, rowOf}
-use Rattle.grid.specs.Steps.{gridOf}
-use Rattle.grid.proofs.Laws.{row-handed, row-done}
+use Rattle.gridrows.specs.Grid.{Grid, rowOf}
+use Rattle.gridrows.specs.Steps.{gridOf}
+use Rattle.gridrows.proofs.Laws.{row-handed, row-done}
 use Rattle.bytegrid.specs.ByteGrid.{asBytes}
 use Rattle.bytegrid.proofs.rows.detect_row.Statement.{statement}
 use Rattle.bytegrid.proofs.rows.detect_row.Tie as tie

@@ -7,9 +7,9 @@ use lib.ListN.{length, take, drop, length-take, length-drop}
 use Rattle.params.specs.Params.{mostPeaks}
 use Rattle.record.specs.Record.{size}
 use Rattle.wordbytes.specs.Bytes.{wordsOf, floatsOf}
-use Rattle.grid.specs.Grid.{Grid}
-use Rattle.grid.specs.Steps.{gridOf, numbered, Done}
-use Rattle.grid.proofs.Laws.{listed-bound, done-start, done-end, turn-most, turn-ids, turn-room, turn-ready, turn-done}
+use Rattle.gridrows.specs.Grid.{Grid}
+use Rattle.gridrows.specs.Steps.{gridOf, numbered, Done}
+use Rattle.gridrows.proofs.Laws.{listed-bound, done-start, done-end, turn-most, turn-ids, turn-room, turn-ready, turn-done}
 use Rattle.bytegrid.specs.ByteGrid.{asBytes}
 use Rattle.bytegrid.proofs.Laws.{words-left}
 use Rattle.bytegrid.proofs.rows.detect_rows.Statement.{statement}

@@ -16,7 +16,7 @@ use Rattle.smoothrow.specs.declared.inner.Sought.the-variants.{Nothing, Raw, Sm
 use Rattle.smoothrow.proofs.Laws.{searched-length}
 use Rattle.wordbytes.specs.Bytes.{wordsOf, floatsOf}
 use Rattle.bytegrid.specs.ByteGrid.{asBytes}
-use Rattle.grid.proofs.Laws.{ready-for, listed-by, listed-none}
+use Rattle.gridrows.proofs.Laws.{ready-for, listed-by, listed-none}
 use Rattle.bytegrid.proofs.rows.list_row.Statement.{statement}
 use Rattle.bytegrid.proofs.rows.list_row.Tie as tie
 

@@ -8,7 +8,7 @@ use borrow.Author.Needs.{needs}
 use lib.Dec.{T, ltb, leb, eqb}
 use lib.ListN.{length, getD, drop, take, set}
 use lib.Ieee.{Float, nan, binary32, lt}
-use Rattle.grid.proofs.Laws.{lent}
+use Rattle.gridrows.proofs.Laws.{lent}
 use Rattle.bytegrid.proofs.sized.detect_in_16384.Statement.{statement}
 use Rattle.bytegrid.proofs.sized.detect_in_16384.Tie as tie
 use Rattle.bytegrid.proofs.sized.detect_in_16384.Reads as reads

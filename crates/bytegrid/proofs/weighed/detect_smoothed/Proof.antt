@@ -2,12 +2,12 @@ use Prim.Native.Nat.{_/_}
 use native.Mathlib.Nat.{le-add-right}
 use lib.Seq.{take-at, length-take-le}
 use lib.ListN.{length-append}
-use Rattle.grid.specs.Grid.{Grid}
+use Rattle.gridrows.specs.Grid.{Grid}
 use Rattle.wordbytes.specs.Bytes.{wordsOf, floatsOf}
 use Rattle.wordbytes.proofs.BytesLaws.{floats-length}
 use Rattle.wordbytes.proofs.Laws.{decoded-floats, decode-from}
-use Rattle.grid.specs.Steps.{gridOf, Ready, Done}
-use Rattle.grid.proofs.Laws.{few-weights}
+use Rattle.gridrows.specs.Steps.{gridOf, Ready, Done}
+use Rattle.gridrows.proofs.Laws.{few-weights}
 use Rattle.bytegrid.specs.ByteGrid.{asBytes}
 use Rattle.bytegrid.proofs.Laws.{weights-ranged}
 use mathlib.Core.Path.{sym, _∙_, ap, subst}
