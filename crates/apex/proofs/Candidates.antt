@@ -15,15 +15,15 @@ use lib.Ieee.{Float, lt, le}
 use Rattle.numeric.specs.Arith.{at}
 use Rattle.numeric.proofs.Laws.{clash}
 use Rattle.numeric.proofs.Order.{le-not-lt}
-use Rattle.apex.specs.Apex.{isCandidate, candidatesTo, candidates}
-use Rattle.apex.specs.Candidates.{Listed}
+use Rattle.apex.specs.Apex.{isCandidate, candidatesTo}
+use Rattle.apex.specs.Candidates.{NotNeighbours, AtMostHalf, OnlyCandidates, AllCandidates, CandidatesAscend, Between}
 
 -- ---- no two are neighbours
 and-right : (a b : Bool) → (a && b) ≡ true → b ≡ true
 and-right true b h = h
 and-right false b h = clash false h refl
 
-pub not-neighbours : (y : List Float) (i : ℕ) → isCandidate y i ≡ true → isCandidate y (suc i) ≡ false
+pub not-neighbours : NotNeighbours
 unfolding isCandidate
 not-neighbours y i h =
     let k : le (at y (i + 1)) (at y i) ≡ true = and-right (lt (at y (i - 1)) (at y i)) (le (at y (i + 1)) (at y i)) h in
@@ -61,7 +61,7 @@ count-to y zero = omega arith
 count-to y (suc zero) = omega (arith, count-step y zero)
 count-to y (suc (suc k)) = omega (arith, count-to y k, count-two y k)
 
-pub count : (y : List Float) → length (candidates y) ≤ (length y - 1) / 2
+pub count : AtMostHalf
 count y = omega (arith, count-to y (length y - 2))
 
 -- ---- where they stand
@@ -101,7 +101,7 @@ split y k j h = go (isCandidate y (suc k)) refl
     go false e = inl (rw (none-more y k e) at h, ap (λ (q : List ℕ). getD q j 0) (none-more y k e))
 
 -- every one that is listed is a candidate among 1 .. k
-pub listed : (y : List Float) (k j : ℕ) → j < length (candidatesTo y k) → Listed y k (getD (candidatesTo y k) j 0)
+pub listed : OnlyCandidates
 listed y zero j h = absurd (omega (arith, none y))
 listed y (suc k) j h =
     elim (split y k j h) [
@@ -110,7 +110,7 @@ listed y (suc k) j h =
     ]
 
 -- and the list ascends
-pub ascending : (y : List Float) (k i j : ℕ) → i < j → j < length (candidatesTo y k) → getD (candidatesTo y k) i 0 < getD (candidatesTo y k) j 0
+pub ascending : CandidatesAscend
 ascending y zero i j p h = absurd (omega (arith, none y))
 ascending y (suc k) i j p h =
     elim (split y k j h) [
@@ -119,7 +119,7 @@ ascending y (suc k) i j p h =
     ]
 
 -- and every candidate among 1 .. k is listed
-pub complete : (y : List Float) (k i : ℕ) → 1 ≤ i → i ≤ k → isCandidate y i ≡ true → (j : ℕ) × (j < length (candidatesTo y k)) × (getD (candidatesTo y k) j 0 ≡ i)
+pub complete : AllCandidates
 complete y zero i p q h = absurd (omega arith)
 complete y (suc k) i p q h = go (ltb i (suc k)) refl (λ (r : i ≤ k). complete y k i p r h)
   where
@@ -137,5 +137,5 @@ complete y (suc k) i p q h = go (ltb i (suc k)) refl (λ (r : i ≤ k). complete
         (length l, rw (s, length-append) (omega arith), rw (s, d) (getD-at l (suc k) [] 0 (length l) refl))
 
 -- a candidate of a row has a neighbour on each side
-pub within : (y : List Float) (j : ℕ) → j < length (candidates y) → (1 ≤ getD (candidates y) j 0) × (getD (candidates y) j 0 ≤ length y - 2) × (getD (candidates y) j 0 + 1 < length y)
+pub within : Between
 within y j h = let r = listed y (length y - 2) j h in (r .low, r .high, omega arith)

@@ -1,18 +1,17 @@
 -- What the number of an area says, and which answer it is. Assumes nothing.
 use mathlib.Core.Path.{_≡_, refl}
-use mathlib.Core.Bool.{true, false, cond}
+use mathlib.Core.Bool.{true, false}
 use mathlib.Core.List.{List}
-use Prim.Native.Nat.{ℕ, _<_}
-use lib.Dec.{eqb}
+use Prim.Native.Nat.{ℕ}
 use lib.Ieee.{Float}
-use Rattle.refusal.specs.Refusal.{firstOf, ascendingFrom, Lowest}
+use Rattle.refusal.specs.Refusal.{firstOf, ascendingFrom}
 use Rattle.refusal.proofs.RefusalLaws.{lowest-by, none-by, appliesFor}
-use Rattle.refusal.specs.Answers.{answerBy}
 use Rattle.refusal.specs.AnswersLaws.{fromSays}
 use Rattle.refusal.proofs.AnswersLaws.{which}
 use Rattle.area.specs.declared.AreaAnswer.{AreaAnswer}
 use Rattle.area.specs.declared.AreaAnswer.the-variants.{Area, Refused}
 use Rattle.area.specs.Area.{areaChecks, areaNumber, areaSays}
+use Rattle.area.specs.AreaLaws.{AreaLowest, AreaTold}
 
 pub number-is : (y : List Float) (x0 x1 : Float) → areaNumber y x0 x1 ≡ firstOf (areaChecks y x0 x1)
 unfolding areaNumber
@@ -23,18 +22,18 @@ module _ (y : List Float) (x0 x1 : Float) where
   unfolding ascendingFrom
   ascending = refl
 
-  -- it is the lowest that applies
-  pub number-lowest : 0 < areaNumber y x0 x1 → Lowest (areaChecks y x0 x1) (areaNumber y x0 x1)
-  number-lowest h = lowest-by (areaChecks y x0 x1) (number-is y x0 x1) ascending h
-
   -- where it is 0, the check with the number n does not apply
   pub none-for : (n : ℕ) → areaNumber y x0 x1 ≡ 0 → appliesFor n (areaChecks y x0 x1) ≡ false
   none-for n z = none-by n (areaChecks y x0 x1) (number-is y x0 x1) ascending z
+
+-- it is the lowest that applies
+pub number-lowest : AreaLowest
+number-lowest y x0 x1 h = lowest-by (areaChecks y x0 x1) (number-is y x0 x1) (ascending y x0 x1) h
 
 -- an answer is told by what it says
 again : (r : AreaAnswer) → r ≡ fromSays Area Refused (areaSays r)
 again (Area a) = refl
 again (Refused n) = refl
 
-pub area-which : (r : AreaAnswer) (n : ℕ) (a : Float) → areaSays r ≡ answerBy n a → r ≡ cond (eqb n 0) (Area a) (Refused n)
+pub area-which : AreaTold
 area-which r n a e = which Area Refused areaSays again r n a e

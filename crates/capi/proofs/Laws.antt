@@ -8,7 +8,7 @@ use borrow.Author.Tests.{eq-eqb, ne-eqb, lt-leb}
 use lib.Dec.{leb, ltb, eqb}
 use lib.ListN.{length}
 use lib.Ieee.{Float}
-use Rattle.refusal.specs.Refusal.{firstOf, ascendingFrom, Lowest}
+use Rattle.refusal.specs.Refusal.{firstOf, ascendingFrom}
 use Rattle.refusal.proofs.RefusalLaws.{lowest, appliesFor}
 use Rattle.limits.specs.Limits.{maxWeight}
 use Rattle.numeric.specs.Numeric.{allInRange}
@@ -19,7 +19,7 @@ use Rattle.grid.specs.GridNumber.{gridChecks, gridNumber}
 use Rattle.gridrows.specs.Steps.{Done}
 use Rattle.grid.proofs.Laws as grid
 use Rattle.bytegrid.specs.ByteGrid.{asBytes}
-use Rattle.capi.specs.Entry.{also, entryChecks, entryNumber, Answered}
+use Rattle.capi.specs.Entry.{also, entryChecks, entryNumber, EntryLowest, Answered}
 use Rattle.bytegrid.specs.ByteGrid.{Fit}
 
 -- ---- weights: none, too many, or as many as there is room for
@@ -104,7 +104,6 @@ module _ (whole : Bool) (flag : ℕ) (g : Grid) (rows : ℕ) (out₀ : List ℕ)
   refused z = let e : eqb (entryNumber whole flag g rows (length out₀ / 4)) 0 ≡ false = ne-eqb _ 0 (λ q. z (is ∙ q)) in record { answer = rw e is; bytes = rw e }
 
 -- ---- the number is the lowest that applies
-pub entry-lowest : (whole : Bool) (flag : ℕ) (g : Grid) (rows room : ℕ) → 0 < entryNumber whole flag g rows room
-    → Lowest (entryChecks whole flag g rows room) (entryNumber whole flag g rows room)
+pub entry-lowest : EntryLowest
 unfolding entryNumber also ascendingFrom
 entry-lowest whole flag g rows room h = lowest 0 (entryChecks whole flag g rows room) refl h

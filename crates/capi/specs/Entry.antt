@@ -2,11 +2,11 @@
 use mathlib.Core.Path.{_≡_}
 use mathlib.Core.Bool.{Bool, cond, not, _&&_, _||_}
 use mathlib.Core.List.{List, [], _∷_, _++_}
-use Prim.Native.Nat.{ℕ, _*_, _/_, _%_}
+use Prim.Native.Nat.{ℕ, _*_, _/_, _%_, _<_}
 use lib.Dec.{ltb, eqb}
 use lib.ListN.{length, drop}
 use lib.Ieee.{Float}
-use Rattle.refusal.specs.Refusal.{Check, firstOf}
+use Rattle.refusal.specs.Refusal.{Check, firstOf, Lowest}
 use Rattle.params.specs.declared.ImDetectParams.{ImDetectParams}
 use Rattle.params.specs.declared.FrameBounds.{FrameBounds}
 use Rattle.params.specs.declared.WindowGroup.{WindowGroup}
@@ -32,6 +32,12 @@ entryChecks whole flag g rows room = also 1 (not whole) (also 4 (ltb 1 flag) (gr
 
 unfoldable pub entryNumber : Bool → ℕ → Grid → ℕ → ℕ → ℕ
 entryNumber whole flag g rows room = firstOf (entryChecks whole flag g rows room)
+
+-- it is the lowest that applies: `entry-lowest` in proofs/Laws.antt
+abbrev pub EntryLowest : Type 0
+EntryLowest =
+    (whole : Bool) (flag : ℕ) (g : Grid) (rows room : ℕ) → 0 < entryNumber whole flag g rows room
+    → Lowest (entryChecks whole flag g rows room) (entryNumber whole flag g rows room)
 
 abbrev pub entryAnswer : ℕ → ℕ → ℕ
 entryAnswer number count = cond (eqb number 0) (count * 64) number

@@ -2,3 +2,4 @@
 pub mod GridNumber
 pub mod Answer
 pub mod GridCases
+pub mod GridNumberLaws

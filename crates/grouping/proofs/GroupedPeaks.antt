@@ -18,6 +18,7 @@ use Rattle.record.proofs.RoundTrip.{read-fits, got-back}
 use Rattle.record.specs.declared.ImPeak1D.{ImPeak1D}
 use Rattle.merging.specs.Merging.{merged, highestF, summed, having, firstOf, firstMobility, anySigma, meanSigma}
 use Rattle.grouping.specs.Grouping.{peaksAt, mergedWords, groupWords}
+use Rattle.grouping.specs.GroupedPeaks.{GroupsRead}
 use Rattle.grouping.proofs.GroupingLaws.{words-length, words-append}
 
 -- a list with its middle part put where it stands
@@ -93,8 +94,8 @@ module _ (list : List ℕ) where
     unfolding withPeak mergedWords
     put = between (groupWords list gs ++ rest) front (mergedWords list (getD gs k [])) back (k * size) size front-length refl parts
 
-    pub written : peakAt (groupWords list gs ++ rest) k ≡ merged (peaksAt list (getD gs k []))
-    written =
-        let p = merged (peaksAt list (getD gs k [])) in
-        let room : k * size + size ≤ length (groupWords list gs ++ rest) = simp length-append (omega (arith, words-length list gs)) in
-        ap (λ (l : List ℕ). peakAt l k) put ∙ got-back (groupWords list gs ++ rest) k p room (merged-fits (getD gs k []))
+pub written : GroupsRead
+written list gs rest k h =
+    let p = merged (peaksAt list (getD gs k [])) in
+    let room : k * size + size ≤ length (groupWords list gs ++ rest) = simp length-append (omega (arith, words-length list gs)) in
+    ap (λ (l : List ℕ). peakAt l k) (put list gs rest k h) ∙ got-back (groupWords list gs ++ rest) k p room (merged-fits list (getD gs k []))

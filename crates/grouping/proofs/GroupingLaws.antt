@@ -14,6 +14,7 @@ use lib.Seq.{getD-set-same, getD-set-other}
 use Rattle.record.specs.Record.{size, peakAt}
 use Rattle.ordering.specs.declared.inner.KeyRule.{KeyRule}
 use Rattle.grouping.specs.Grouping.{peaksAt, follows, groupsFrom, groups, mergedWords, groupWords, numbered, marked}
+use Rattle.grouping.specs.GroupingLaws.{GroupsJoin, NoneEmpty, FewGroups, MemberNumber, OtherNumber}
 
 reversed-length : (l r : List ℕ) → length (reverseAux l r) ≡ length l + length r
 reversed-length [] r = omega arith
@@ -44,11 +45,6 @@ module _ (list : List ℕ) (rule : KeyRule) where
       go true e f = e ∙ ap (λ (l : List ℕ). l ++ qs) (reverse-cons q g) ∙ append-assoc (reverse g) (q ∷ []) qs
       go false e f = ap (λ (l : List ℕ). reverse g ++ l) f
 
-  pub groups-flatten : (order : List ℕ) → flatten (groups list rule order) ≡ order
-  unfolding groups flatten
-  groups-flatten [] = refl
-  groups-flatten (p ∷ ps) = flatten-from (p ∷ []) ps
-
   -- no group is empty
   some-from : (g qs : List ℕ) → 0 < length g → (f : List ℕ) → List·Memᴰ f (groupsFrom list rule g qs) → 0 < length f
   unfolding groupsFrom
@@ -61,11 +57,6 @@ module _ (list : List ℕ) (rule : KeyRule) where
       go true i j m = i m
       go false i j m = ⊎-elim (λ (e : f ≡ reverse g). omega (arith, ap length e, reversed-length g [])) j (List·Memᴰ·cases-cons m)
 
-  pub groups-some : (order g : List ℕ) → List·Memᴰ g (groups list rule order) → 0 < length g
-  unfolding groups
-  groups-some [] g m = absurd (List·Memᴰ·not-nil m)
-  groups-some (p ∷ ps) g m = some-from (p ∷ []) ps (omega arith) g m
-
   -- at most as many groups as places
   count-from : (g qs : List ℕ) → length (groupsFrom list rule g qs) ≤ length qs + 1
   unfolding groupsFrom
@@ -77,10 +68,20 @@ module _ (list : List ℕ) (rule : KeyRule) where
       go true i j = omega arith
       go false i j = omega arith
 
-  pub groups-count : (order : List ℕ) → length (groups list rule order) ≤ length order
-  unfolding groups
-  groups-count [] = omega arith
-  groups-count (p ∷ ps) = omega (arith, count-from (p ∷ []) ps)
+pub groups-flatten : GroupsJoin
+unfolding groups flatten
+groups-flatten list rule [] = refl
+groups-flatten list rule (p ∷ ps) = flatten-from list rule (p ∷ []) ps
+
+pub groups-some : NoneEmpty
+unfolding groups
+groups-some list rule [] g m = absurd (List·Memᴰ·not-nil m)
+groups-some list rule (p ∷ ps) g m = some-from list rule (p ∷ []) ps (omega arith) g m
+
+pub groups-count : FewGroups
+unfolding groups
+groups-count list rule [] = omega arith
+groups-count list rule (p ∷ ps) = omega (arith, count-from list rule (p ∷ []) ps)
 
 -- ---- their records
 
@@ -156,12 +157,11 @@ module _ (p : ℕ) where
       marked-member (k + 1) gs (numbered k g column) (apart .1) (rw (numbered-length k g column) h) j m ∙ e
 
 -- the column of a pass
-module _ (list : List ℕ) (rule : KeyRule) (order column : List ℕ) (p : ℕ) where
-  pub member-number : List·Nodup order → p < length column → (j : ℕ) → List·Memᴰ p (getD (groups list rule order) j [])
-      → getD (marked 0 (groups list rule order) column) p 0 ≡ j
-  member-number d h j m =
-      let e : 0 + j ≡ j = omega arith in
-      marked-member p 0 (groups list rule order) column (subst List·Nodup (sym (groups-flatten list rule order)) d) h j m ∙ e
+pub member-number : MemberNumber
+member-number list rule order column p d h j m =
+    let e : 0 + j ≡ j = omega arith in
+    marked-member p 0 (groups list rule order) column (subst List·Nodup (sym (groups-flatten list rule order)) d) h j m ∙ e
 
-  pub other-number : (List·Memᴰ p order → ⊥) → getD (marked 0 (groups list rule order) column) p 0 ≡ getD column p 0
-  other-number n = marked-other p 0 (groups list rule order) column (λ m. n (subst (List·Memᴰ p) (groups-flatten list rule order) m))
+pub other-number : OtherNumber
+other-number list rule order column p n =
+    marked-other p 0 (groups list rule order) column (λ m. n (subst (List·Memᴰ p) (groups-flatten list rule order) m))

@@ -2,3 +2,5 @@
 pub mod Cases
 pub mod Grouping
 pub mod Walk
+pub mod GroupingLaws
+pub mod GroupedPeaks

@@ -2,14 +2,14 @@
 use mathlib.Core.Path.{_≡_, refl, sym, _∙_}
 use mathlib.Core.Bool.{Bool, true, false, cond}
 use mathlib.Core.List.{List, [], _∷_}
-use mathlib.Core.Logic.{_≢_, _⊎_, inl, inr, ⊎-elim}
+use mathlib.Core.Logic.{_⊎_, inl, inr, ⊎-elim}
 use Prim.Native.Nat.{ℕ, _<_}
 use native.Mathlib.Omega.{arith}
 use borrow.Author.Tests.{eqb-true, eq-eqb, ne-eqb, ltb-true, ltb-false, lt-ltb}
 use lib.Dec.{ltb, eqb}
 use Rattle.numeric.proofs.Laws.{clash}
-use Rattle.matching.specs.declared.inner.Key.{Key}
 use Rattle.matching.specs.Keys.{lexLt, numbers, keyLt}
+use Rattle.matching.specs.KeyLaws.{Irreflexive, Transitive, Asymmetric, SameNumbers, Total}
 
 -- ---- lists of numbers
 
@@ -66,16 +66,16 @@ lex-total (x ∷ xs) (y ∷ ys) g h = go (ltb x y) (ltb y x) refl refl (lex-tota
 
 -- ---- keys
 
-pub irreflexive : (x : Key) → keyLt x x ≡ false
+pub irreflexive : Irreflexive
 unfolding keyLt
 irreflexive x = lex-irreflexive (numbers x)
 
-pub transitive : (x y z : Key) → keyLt x y ≡ true → keyLt y z ≡ true → keyLt x z ≡ true
+pub transitive : Transitive
 unfolding keyLt
 transitive x y z g h = lex-transitive (numbers x) (numbers y) (numbers z) g h
 
 -- not both of two come first
-pub asymmetric : (x y : Key) → keyLt x y ≡ true → keyLt y x ≡ false
+pub asymmetric : Asymmetric
 asymmetric x y g = go (keyLt y x) refl
   where
     go : (t : Bool) → keyLt y x ≡ t → t ≡ false
@@ -83,12 +83,12 @@ asymmetric x y g = go (keyLt y x) refl
     go false e = refl
 
 -- two keys of which neither comes first are the same in every number
-pub same-numbers : (x y : Key) → keyLt x y ≡ false → keyLt y x ≡ false → numbers x ≡ numbers y
+pub same-numbers : SameNumbers
 unfolding keyLt
 same-numbers x y g h = lex-total (numbers x) (numbers y) g h
 
 -- so of two keys with different identities one comes first
-pub total : (x y : Key) → x .id ≢ y .id → keyLt x y ≡ false → keyLt y x ≡ true
+pub total : Total
 unfolding numbers
 total x y n g = go (keyLt y x) refl
   where

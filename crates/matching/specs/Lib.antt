@@ -3,3 +3,4 @@ pub mod Matching
 pub mod Group
 pub mod Keys
 pub mod Cases
+pub mod KeyLaws

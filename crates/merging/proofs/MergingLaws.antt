@@ -12,7 +12,8 @@ use lib.Dec.{ltb}
 use Rattle.numeric.proofs.Laws.{clash}
 use Rattle.record.specs.declared.ImPeak1D.{ImPeak1D}
 use Rattle.merging.specs.Merging.{extreme, lowest, highest, isAny, merged}
-use Rattle.merging.specs.MergingLaws.{Has, AllAny, Bound, tof, retention, frame, scan, absolute, low, high}
+use Rattle.merging.specs.MergingLaws.{Has, AllAny, tof, retention, frame, scan, absolute, low, high}
+use Rattle.merging.specs.MergingLaws.{LowestBelow, LowestOne, HighestAbove, HighestOne, MergedLow, MergedHigh, MergedId, TwiceLow, TwiceHigh, TwiceId}
 
 -- ---- extremes, the lowest and the highest alike
 
@@ -104,29 +105,28 @@ highest-choice = record {
 }
 
 -- No member is below the lowest, some member has it, and of two lists together it is the lower of the two; likewise the highest.
-module _ (f : ImPeak1D → ℕ) where
-  pub lowest-below : (p : ImPeak1D) (ps : List ImPeak1D) → List·Memᴰ p ps → lowest f ps ≤ f p
-  lowest-below p ps m = extreme-before min _ lowest-choice f p ps m
+pub lowest-below : LowestBelow
+lowest-below f p ps m = extreme-before min _ lowest-choice f p ps m
 
-  pub lowest-one : (ps : List ImPeak1D) → isAny ps ≡ true → Has f (lowest f ps) ps
-  lowest-one ps h = extreme-one min _ lowest-choice f ps h
+pub lowest-one : LowestOne
+lowest-one f ps h = extreme-one min _ lowest-choice f ps h
 
-  pub lowest-append : (ps qs : List ImPeak1D) → isAny ps ≡ true → isAny qs ≡ true → lowest f (ps ++ qs) ≡ min (lowest f ps) (lowest f qs)
-  lowest-append ps qs h k = extreme-append min _ lowest-choice f ps qs h k
+pub lowest-append : (f : ImPeak1D → ℕ) (ps qs : List ImPeak1D) → isAny ps ≡ true → isAny qs ≡ true → lowest f (ps ++ qs) ≡ min (lowest f ps) (lowest f qs)
+lowest-append f ps qs h k = extreme-append min _ lowest-choice f ps qs h k
 
-  pub highest-above : (p : ImPeak1D) (ps : List ImPeak1D) → List·Memᴰ p ps → f p ≤ highest f ps
-  highest-above p ps m = extreme-before max _ highest-choice f p ps m
+pub highest-above : HighestAbove
+highest-above f p ps m = extreme-before max _ highest-choice f p ps m
 
-  pub highest-one : (ps : List ImPeak1D) → isAny ps ≡ true → Has f (highest f ps) ps
-  highest-one ps h = extreme-one max _ highest-choice f ps h
+pub highest-one : HighestOne
+highest-one f ps h = extreme-one max _ highest-choice f ps h
 
-  pub highest-append : (ps qs : List ImPeak1D) → isAny ps ≡ true → isAny qs ≡ true → highest f (ps ++ qs) ≡ max (highest f ps) (highest f qs)
-  highest-append ps qs h k = extreme-append max _ highest-choice f ps qs h k
+pub highest-append : (f : ImPeak1D → ℕ) (ps qs : List ImPeak1D) → isAny ps ≡ true → isAny qs ≡ true → highest f (ps ++ qs) ≡ max (highest f ps) (highest f qs)
+highest-append f ps qs h k = extreme-append max _ highest-choice f ps qs h k
 
 -- ---- the merged peak
 
 -- Its bounds are the extremes of the members' bounds, and its identity is the least of theirs.
-pub merged-low : (b : Bound) (ps : List ImPeak1D) → low b (merged ps) ≡ lowest (low b) ps
+pub merged-low : MergedLow
 unfolding merged low
 merged-low tof ps = refl
 merged-low retention ps = refl
@@ -134,7 +134,7 @@ merged-low frame ps = refl
 merged-low scan ps = refl
 merged-low absolute ps = refl
 
-pub merged-high : (b : Bound) (ps : List ImPeak1D) → high b (merged ps) ≡ highest (high b) ps
+pub merged-high : MergedHigh
 unfolding merged high
 merged-high tof ps = refl
 merged-high retention ps = refl
@@ -142,17 +142,16 @@ merged-high frame ps = refl
 merged-high scan ps = refl
 merged-high absolute ps = refl
 
-pub merged-id : (ps : List ImPeak1D) → merged ps .id ≡ lowest (λ p. p .id) ps
+pub merged-id : MergedId
 unfolding merged
 merged-id ps = refl
 
 -- Of groups that are merged, and the merged peaks merged once more, it has the extremes and the least identity of all the members.
-module _ (gs : List (List ImPeak1D)) (some : AllAny gs) where
-  pub twice-low : (b : Bound) → low b (merged (map merged gs)) ≡ lowest (low b) (flatten gs)
-  twice-low b = merged-low b (map merged gs) ∙ extreme-groups min _ lowest-choice (low b) merged (merged-low b) gs some
+pub twice-low : TwiceLow
+twice-low gs some b = merged-low b (map merged gs) ∙ extreme-groups min _ lowest-choice (low b) merged (merged-low b) gs some
 
-  pub twice-high : (b : Bound) → high b (merged (map merged gs)) ≡ highest (high b) (flatten gs)
-  twice-high b = merged-high b (map merged gs) ∙ extreme-groups max _ highest-choice (high b) merged (merged-high b) gs some
+pub twice-high : TwiceHigh
+twice-high gs some b = merged-high b (map merged gs) ∙ extreme-groups max _ highest-choice (high b) merged (merged-high b) gs some
 
-  pub twice-id : merged (map merged gs) .id ≡ lowest (λ p. p .id) (flatten gs)
-  twice-id = merged-id (map merged gs) ∙ extreme-groups min _ lowest-choice (λ p. p .id) merged merged-id gs some
+pub twice-id : TwiceId
+twice-id gs some = merged-id (map merged gs) ∙ extreme-groups min _ lowest-choice (λ p. p .id) merged merged-id gs some

@@ -11,13 +11,14 @@ use lib.Ieee.{Float, nan, inf, fin, binary32, up, down, lt, le, eq, isNan, ofBit
 use lib.Ieee.Bits.{is-true}
 use lib.Ieee.Fits.{down-pos}
 use lib.Ieee.Order.{round-mono}
-use Rattle.numeric.specs.Arith.{_⊕_, _⊘_, 𝟎, 𝟏}
+use Rattle.numeric.specs.Arith.{_⊕_, 𝟎, 𝟏}
 use Rattle.numeric.specs.Numeric.{maxF}
 use Rattle.numeric.proofs.Laws.{clash}
 use Rattle.numeric.proofs.Order.{le-not-lt, not-lt, lt-le-trans}
 use Rattle.record.specs.Record.{hasSigma}
 use Rattle.record.specs.declared.ImPeak1D.{ImPeak1D}
-use Rattle.merging.specs.Merging.{summed, weight, totalWeight, weightedSum, mean, having, isAny, anySigma}
+use Rattle.merging.specs.Merging.{summed, weight, totalWeight, having, isAny}
+use Rattle.merging.specs.MergingWeights.{TotalAbove, MeanIs, SigmaThere}
 
 -- a clear sign, and with it a value of 1 at least
 abbrev Clear : Float → Type 0
@@ -76,15 +77,15 @@ from-clear s p (q ∷ ps) c =
     let next = add-up s (weight p) c (one-up (weight p) (weight-up p)) in
     from-clear (s ⊕ weight p) q ps (clear (s ⊕ weight p) (one-up (s ⊕ weight p) next))
 
-pub total-above : (ps : List ImPeak1D) → isAny ps ≡ true → lt 𝟎 (totalWeight ps) ≡ true
+pub total-above : TotalAbove
 unfolding summed isAny lt ofBits
 total-above [] h = clash false h refl
 total-above (p ∷ ps) h = lt-le-trans 𝟎 𝟏 (foldl (λ so q. so ⊕ weight q) 𝟎 (p ∷ ps)) refl (from-clear 𝟎 p ps refl)
 
-pub mean-is : (f : ImPeak1D → Float) (ps : List ImPeak1D) → isAny ps ≡ true → mean f ps ≡ weightedSum f ps ⊘ totalWeight ps
+pub mean-is : MeanIs
 mean-is f ps h = rw (total-above ps h)
 
-pub sigma-there : (ps : List ImPeak1D) → anySigma ps ≡ isAny (having hasSigma ps)
+pub sigma-there : SigmaThere
 unfolding summed isAny lt ofBits
 sigma-there ps = go (having hasSigma ps)
   where

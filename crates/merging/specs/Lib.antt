@@ -3,3 +3,4 @@ pub mod Merging
 pub mod MergingCases
 pub mod MergingLaws
 pub mod Walk
+pub mod MergingWeights

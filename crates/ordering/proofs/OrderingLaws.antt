@@ -4,7 +4,7 @@ use mathlib.Core.Path.{_≡_, refl, sym, ap, _∙_}
 use mathlib.Core.Bool.{Bool, true, false, cond}
 use mathlib.Core.List.{List, [], _∷_, List·Memᴰ, List·Memᴰ·not-nil, List·Memᴰ·cases-cons}
 use mathlib.Core.List.{List·Memᴰ·head as here, List·Memᴰ·tail as there}
-use mathlib.Core.List.{List·Permᴰ, List·Permᴰ·nil, List·Permᴰ·cons, List·Permᴰ·swap, List·Permᴰ·trans, Permᴰ·refl, Permᴰ·symm, Perm·nodup, List·Nodup}
+use mathlib.Core.List.{List·Permᴰ, List·Permᴰ·nil, List·Permᴰ·cons, List·Permᴰ·swap, List·Permᴰ·trans, Permᴰ·refl, Permᴰ·symm, Perm·nodup}
 use mathlib.Core.Logic.{_⊎_, inl, inr, ⊎-elim}
 use Prim.Native.Nat.{ℕ, zero, suc, _+_, _*_, _<_, _≤_}
 use native.Mathlib.Omega.{arith}
@@ -16,6 +16,7 @@ use Rattle.matching.proofs.KeyLaws.{transitive, asymmetric, same-numbers}
 use Rattle.matching.specs.declared.inner.Key.{Key}
 use Rattle.ordering.specs.declared.inner.KeyRule.{KeyRule}
 use Rattle.ordering.specs.Ordering.{keyAt, inserted, sortedBy, Ascending, Within}
+use Rattle.ordering.specs.OrderingLaws.{SortPermutes, SortDistinct, SortAscends}
 
 -- ---- keys
 
@@ -103,7 +104,7 @@ module _ (key : ℕ → Key) where
   sort-given [] r m = m
   sort-given (p ∷ ps) r m = ⊎-elim here (λ n. there (sort-given ps r n)) (insert-only p (sortedBy key ps) r m)
 
-  -- so it is a permutation of what was given, and has no place twice if that had none
+  -- with the new place in front instead it is a permutation
   insert-permutes : (p : ℕ) (qs : List ℕ) → List·Permᴰ (inserted key p qs) (p ∷ qs)
   unfolding inserted
   insert-permutes p [] = Permᴰ·refl (p ∷ [])
@@ -112,14 +113,6 @@ module _ (key : ℕ → Key) where
       go : (t : Bool) → List·Permᴰ (inserted key p qs) (p ∷ qs) → List·Permᴰ (cond t (q ∷ inserted key p qs) (p ∷ (q ∷ qs))) (p ∷ (q ∷ qs))
       go true f = List·Permᴰ·trans (List·Permᴰ·cons refl f) (List·Permᴰ·swap refl refl)
       go false f = Permᴰ·refl (p ∷ (q ∷ qs))
-
-  pub sort-permutes : (ps : List ℕ) → List·Permᴰ (sortedBy key ps) ps
-  unfolding sortedBy
-  sort-permutes [] = List·Permᴰ·nil
-  sort-permutes (p ∷ ps) = List·Permᴰ·trans (insert-permutes p (sortedBy key ps)) (List·Permᴰ·cons refl (sort-permutes ps))
-
-  pub sort-distinct : (ps : List ℕ) → List·Nodup ps → List·Nodup (sortedBy key ps)
-  sort-distinct ps = Perm·nodup ∣ Permᴰ·symm (sort-permutes ps) ∣₁
 
   -- ---- ascending
   pub insert-ascending : (p : ℕ) (qs : List ℕ) → Ascending key qs → Ascending key (inserted key p qs)
@@ -137,10 +130,22 @@ module _ (key : ℕ → Key) where
         a,
       )
 
-  pub sort-ascending : (ps : List ℕ) → Ascending key (sortedBy key ps)
-  unfolding sortedBy
-  sort-ascending [] = tt
-  sort-ascending (p ∷ ps) = insert-ascending p (sortedBy key ps) (sort-ascending ps)
+-- ---- the sort
+
+-- it is a permutation of what was given, and has no place twice if that had none
+pub sort-permutes : SortPermutes
+unfolding sortedBy
+sort-permutes key [] = List·Permᴰ·nil
+sort-permutes key (p ∷ ps) = List·Permᴰ·trans (insert-permutes key p (sortedBy key ps)) (List·Permᴰ·cons refl (sort-permutes key ps))
+
+pub sort-distinct : SortDistinct
+sort-distinct key ps = Perm·nodup ∣ Permᴰ·symm (sort-permutes key ps) ∣₁
+
+-- and ascends
+pub sort-ascending : SortAscends
+unfolding sortedBy
+sort-ascending key [] = tt
+sort-ascending key (p ∷ ps) = insert-ascending key p (sortedBy key ps) (sort-ascending key ps)
 
 -- ---- by index
 

@@ -22,7 +22,7 @@ use Rattle.table.specs.Print.{refusal}
 use Rattle.table.specs.Table.{verdict, isNext, counted, atLine, printedFrom}
 use Rattle.table.proofs.Laws.{push, row-counted, row-text, never-row}
 use Rattle.table.proofs.Readings.{readings-range}
-use Rattle.peaklines.specs.TableText.{scans, lineText, textOf, peaksText, Sound, behindLine}
+use Rattle.peaklines.specs.TableText.{scans, lineText, textOf, peaksText, Sound, behindLine, LineByLine}
 
 -- ---- scans
 pub scans-length : (n : ℕ) → length (scans n) ≡ n
@@ -115,8 +115,7 @@ text-fits x out last k e l h =
     let m : length last ≡ length x + (length out - k) = ap length l ∙ simp (length-append, length-drop) in omega arith
 
 -- the table is what its lines give, one after another, as far as the first refusal
-pub line-by-line : (s : Progress) (line : List ℕ) (more : List (List ℕ))
-    → printedFrom peaksText s (line ∷ more) ≡ lineText line (verdict s line) ++ behindLine (verdict s line) more
+pub line-by-line : LineByLine
 unfolding printedFrom
 line-by-line s line more = go (verdict s line)
   where

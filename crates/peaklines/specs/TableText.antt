@@ -14,7 +14,7 @@ use Rattle.table.specs.declared.RowsSoFar.{RowsSoFar}
 use Rattle.table.specs.declared.Verdict.{Verdict}
 use Rattle.table.specs.Print.{heading, refusal}
 use Rattle.table.specs.Text.{readings}
-use Rattle.table.specs.Table.{printedFrom, table}
+use Rattle.table.specs.Table.{verdict, printedFrom, table}
 use Rattle.peaklines.specs.RowLines.{rowLines}
 
 -- the scans of n samples
@@ -58,3 +58,9 @@ abbrev pub behindLine : Verdict → List (List ℕ) → List ℕ
 behindLine (Verdict.Heading s) more = printedFrom peaksText (Progress.Rows s) more
 behindLine (Verdict.Row s) more = printedFrom peaksText (Progress.Rows s) more
 behindLine Verdict.Refused more = []
+
+-- `line-by-line` in proofs/TableLaws.antt
+abbrev pub LineByLine : Type 0
+LineByLine =
+    (s : Progress) (line : List ℕ) (more : List (List ℕ))
+    → printedFrom peaksText s (line ∷ more) ≡ lineText line (verdict s line) ++ behindLine (verdict s line) more

@@ -2,7 +2,6 @@
 use mathlib.Core.Path.{_≡_, refl, _∙_, ap, subst}
 use mathlib.Core.Bool.{Bool, true, false}
 use mathlib.Core.List.{List, _++_}
-use mathlib.Core.Logic.{_≢_}
 use Prim.Native.Nat.{ℕ, _≤_, _<_, _+_, _-_, _*_}
 use native.Mathlib.Nat.{zero-add}
 use native.Mathlib.Omega.{arith}
@@ -13,8 +12,8 @@ use lib.Seq.{length-take-le, getD-append-add, getD-take, getD-drop}
 use lib.Ieee.{binary32}
 use lib.Ieee.Bits.{ofBits-toBits, ofBits-fits}
 use Rattle.record.specs.declared.ImPeak1D.{ImPeak1D}
-use Rattle.record.specs.Record.{size, wordsOf, peakFrom, peakAt, withPeak}
-use Rattle.record.specs.RoundTrip.{FloatsFit}
+use Rattle.record.specs.Record.{size, wordsOf, peakFrom, withPeak}
+use Rattle.record.specs.RoundTrip.{ReadFits, GotBack, OthersStay, SameLength}
 
 -- a peak's words are as many as a record has
 pub words-length : (p : ImPeak1D) → length (wordsOf p) ≡ size
@@ -55,7 +54,7 @@ own-words l m a b h =
     )
 
 -- every float of a peak that is read from a list is one of binary32
-pub read-fits : (l : List ℕ) (a : ℕ) → FloatsFit (peakFrom l a)
+pub read-fits : ReadFits
 unfolding peakFrom
 read-fits l a =
     record {
@@ -74,11 +73,6 @@ read-fits l a =
 module _ (l : List ℕ) (k : ℕ) (p : ImPeak1D) (room : k * size + size ≤ length l) where
   front : length (take (k * size) l) ≡ k * size
   front = length-take-le (k * size) l (omega arith)
-
-  -- the list keeps its length
-  pub same-length : length (withPeak l k p) ≡ length l
-  unfolding withPeak
-  same-length = simp (length-append, length-take, length-drop) (omega arith)
 
   -- the words in front of the record and behind it stay
   pub words-before : (i : ℕ) → i < k * size → getD (withPeak l k p) i 0 ≡ getD l i 0
@@ -103,28 +97,33 @@ module _ (l : List ℕ) (k : ℕ) (p : ImPeak1D) (room : k * size + size ≤ len
       ap (λ (n : ℕ). getD (withPeak l k p) n 0) e ∙ inside (size + j) ∙ getD-append-add (wordsOf p) (drop (k * size + size) l) j 0
       ∙ getD-drop (k * size + size) l j 0 ∙ ap (λ (n : ℕ). getD l n 0) f
 
-  -- the peak that was put is the peak that is got
-  pub got-back : FloatsFit p → peakAt (withPeak l k p) k ≡ p
-  unfolding peakFrom
-  got-back f =
-      own-words (withPeak l k p) (wordsOf p) (k * size) 0 (λ j h. rw zero-add (inside j ∙ List·getD-append (wordsOf p) (drop (k * size + size) l) 0 j h))
-      ∙ rw (
-        ofBits-toBits binary32 (p .«scan_sigma») (f .sigma),
-        ofBits-toBits binary32 (p .mobility) (f .mobility),
-        ofBits-toBits binary32 (p .«apex_smoothed») (f .smoothed),
-        ofBits-toBits binary32 (p .«apex_raw») (f .raw),
-        ofBits-toBits binary32 (p .prominence) (f .prominence),
-        ofBits-toBits binary32 (p .«left_x») (f .left),
-        ofBits-toBits binary32 (p .«right_x») (f .right),
-        ofBits-toBits binary32 (p .«area_raw») (f .area),
-        ofBits-toBits binary32 (p .subscan) (f .subscan),
-      )
+-- the list keeps its length
+pub same-length : SameLength
+unfolding withPeak
+same-length l k p room = simp (length-append, length-take, length-drop) (omega arith)
 
-  -- every other peak of the list stays
-  pub others-stay : (j : ℕ) → j ≢ k → peakAt (withPeak l k p) j ≡ peakAt l j
-  others-stay j n =
-      own-words (withPeak l k p) l (j * size) (j * size) (λ i b. beside (ltb j k) refl i b)
-    where
-      beside : (b : Bool) → ltb j k ≡ b → (i : ℕ) → i < size → getD (withPeak l k p) (j * size + i) 0 ≡ getD l (j * size + i) 0
-      beside true e i h = words-before (j * size + i) (let lt : j < k = ltb-true j k e in omega arith)
-      beside false e i h = words-after (j * size + i) (let ge : k ≤ j = ltb-false j k e in omega arith)
+-- the peak that was put is the peak that is got
+pub got-back : GotBack
+unfolding peakFrom
+got-back l k p room f =
+    own-words (withPeak l k p) (wordsOf p) (k * size) 0 (λ j h. rw zero-add (inside l k p room j ∙ List·getD-append (wordsOf p) (drop (k * size + size) l) 0 j h))
+    ∙ rw (
+      ofBits-toBits binary32 (p .«scan_sigma») (f .sigma),
+      ofBits-toBits binary32 (p .mobility) (f .mobility),
+      ofBits-toBits binary32 (p .«apex_smoothed») (f .smoothed),
+      ofBits-toBits binary32 (p .«apex_raw») (f .raw),
+      ofBits-toBits binary32 (p .prominence) (f .prominence),
+      ofBits-toBits binary32 (p .«left_x») (f .left),
+      ofBits-toBits binary32 (p .«right_x») (f .right),
+      ofBits-toBits binary32 (p .«area_raw») (f .area),
+      ofBits-toBits binary32 (p .subscan) (f .subscan),
+    )
+
+-- every other peak of the list stays
+pub others-stay : OthersStay
+others-stay l k p room j n =
+    own-words (withPeak l k p) l (j * size) (j * size) (λ i b. beside (ltb j k) refl i b)
+  where
+    beside : (b : Bool) → ltb j k ≡ b → (i : ℕ) → i < size → getD (withPeak l k p) (j * size + i) 0 ≡ getD l (j * size + i) 0
+    beside true e i h = words-before l k p room (j * size + i) (let lt : j < k = ltb-true j k e in omega arith)
+    beside false e i h = words-after l k p room (j * size + i) (let ge : k ≤ j = ltb-false j k e in omega arith)

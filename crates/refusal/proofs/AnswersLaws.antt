@@ -6,7 +6,7 @@ use Prim.Native.Nat.{ℕ}
 use borrow.Author.Tests.{ne-eqb}
 use lib.Dec.{eqb}
 use Rattle.refusal.specs.Answers.{Says, answerBy, countIn}
-use Rattle.refusal.specs.AnswersLaws.{fromOption, fromSays}
+use Rattle.refusal.specs.AnswersLaws.{fromOption, fromSays, Told}
 
 -- the two ways to answer, for a function that has the number n and values w
 pub says-number : {A : Type 0} {n k : ℕ} (v : A) → n ≡ k → (n ≡ 0 → ⊥) → record { number = n; values = none } ≡ answerBy k v
@@ -16,8 +16,7 @@ pub says-values : {A : Type 0} {n k : ℕ} (v : A) {w : A} → n ≡ k → n ≡
 says-values v e h g = rw (← e, h, g)
 
 -- an answer that is told from the others by what it says
-pub which : {A R : Type 0} (accepted : A → R) (refused : ℕ → R) (says : R → Says A) → ((r : R) → r ≡ fromSays accepted refused (says r))
-    → (r : R) (n : ℕ) (v : A) → says r ≡ answerBy n v → r ≡ cond (eqb n 0) (accepted v) (refused n)
+pub which : {A R : Type 0} → Told A R
 which accepted refused says again r n v e = again r ∙ ap (fromSays accepted refused) e ∙ go (eqb n 0)
   where
     go : (z : Bool) → fromOption accepted (refused n) (cond z (some v) none) ≡ cond z (accepted v) (refused n)

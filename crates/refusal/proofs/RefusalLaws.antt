@@ -7,6 +7,7 @@ use native.Mathlib.Omega.{arith}
 use borrow.Author.Tests.{not-true, eq-eqb, ne-eqb, ltb-true}
 use lib.Dec.{eqb, ltb}
 use Rattle.refusal.specs.Refusal.{Check, firstOf, clear, refuses, ascendingFrom, Lowest}
+use Rattle.refusal.specs.RefusalLaws.{IsLowest, LowestIs, ZeroForNone, NoneAtZero}
 use Rattle.refusal.proofs.Bools.{clash, both, and-false}
 
 -- ---- one check
@@ -29,7 +30,7 @@ first-at (b ∷ bs) c rest f h =
     let e = both (not (b .applies)) f in skip b (bs ++ (c ∷ rest)) (not-true (b .applies) (e .0)) ∙ first-at bs c rest (e .1) h
 
 -- (b) none applies
-pub none-applies : (cs : List Check) → clear cs ≡ true → firstOf cs ≡ 0
+pub none-applies : ZeroForNone
 unfolding clear firstOf
 none-applies [] f = refl
 none-applies (c ∷ cs) f =
@@ -44,7 +45,7 @@ none-below m n (c ∷ cs) h l =
     let k = ltb-true m (c .number) (e .0) in
     rw (ne-eqb (c .number) n (λ q. omega arith), none-below (c .number) n cs (e .1) (omega arith))
 
-pub lowest : (m : ℕ) (cs : List Check) → ascendingFrom m cs ≡ true → 0 < firstOf cs → Lowest cs (firstOf cs)
+pub lowest : IsLowest
 unfolding ascendingFrom refuses firstOf
 lowest m [] h p = absurd (omega arith)
 lowest m (c ∷ cs) h p = go (c .applies) refl p (lowest (c .number) cs (both (ltb m (c .number)) h .1))
@@ -58,7 +59,7 @@ lowest m (c ∷ cs) h p = go (c .applies) refl p (lowest (c .number) cs (both (l
     go false e q f = record { applies = rw (e, and-false (eqb (c .number) (firstOf cs)), f q .applies); none-lower = λ k l. rw (e, and-false (eqb (c .number) k), f q .none-lower k l) }
 
 -- and it is 0 only where none applies
-pub none-at-zero : (m : ℕ) (cs : List Check) → ascendingFrom m cs ≡ true → firstOf cs ≡ 0 → clear cs ≡ true
+pub none-at-zero : NoneAtZero
 unfolding ascendingFrom firstOf clear
 none-at-zero m [] h z = refl
 none-at-zero m (c ∷ cs) h z = go (c .applies) refl z (none-at-zero (c .number) cs (both (ltb m (c .number)) h .1))
@@ -77,7 +78,7 @@ same : (a b : ℕ) → (a < b → ⊥) → (b < a → ⊥) → a ≡ b
 same a b p q = omega arith
 
 -- the other way: the lowest number that applies is the answer
-pub lowest-is : (cs : List Check) (n : ℕ) → ascendingFrom 0 cs ≡ true → Lowest cs n → firstOf cs ≡ n
+pub lowest-is : LowestIs
 lowest-is cs n h w = go (firstOf cs) refl
   where
     go : (k : ℕ) → firstOf cs ≡ k → k ≡ n

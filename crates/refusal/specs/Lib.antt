@@ -2,3 +2,4 @@
 pub mod Refusal
 pub mod Answers
 pub mod AnswersLaws
+pub mod RefusalLaws

@@ -3,3 +3,4 @@ pub mod Row
 pub mod RowNumber
 pub mod Written
 pub mod Steps
+pub mod RowNumberLaws

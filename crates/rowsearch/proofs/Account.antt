@@ -1,7 +1,7 @@
 -- What the suppression by least distance d makes of the qualifying apexes qs of a row y, for every d (specs/Account.antt).
 use mathlib.Core.Path.{_≡_, refl, sym, ap, _∙_}
 use mathlib.Core.Bool.{Bool, true, false, cond}
-use mathlib.Core.List.{List, [], _∷_, _++_, reverse, reverseAux, List·Memᴰ·not-nil, List·Memᴰ·cases-cons, List·Memᴰ·append-cases}
+use mathlib.Core.List.{List, [], _∷_, _++_, reverseAux, List·Memᴰ·not-nil, List·Memᴰ·cases-cons, List·Memᴰ·append-cases}
 use mathlib.Core.List.{List·Memᴰ·head as here, List·Memᴰ·tail as there}
 use mathlib.Core.Logic.{_⊎_, inl, inr, ⊎-elim, _≢_}
 use Prim.Native.Nat.{ℕ, suc, _+_, _-_, _≤_, _<_}
@@ -13,7 +13,7 @@ use lib.Ieee.{Float, lt, le}
 use Rattle.numeric.specs.Arith.{at}
 use Rattle.numeric.proofs.Order.{not-le, lt-le}
 use Rattle.rowsearch.specs.Suppression.{keep, keepAll}
-use Rattle.rowsearch.specs.Account.{_∈_, All, Ascending, Descending, NoNan, dist, Leads, listed, step, GivesWay, Accounted}
+use Rattle.rowsearch.specs.Account.{_∈_, All, Ascending, Descending, NoNan, dist, Leads, listed, step, GivesWay, Accounted, KeptQualify, KeptDescend, KeptApart, AllAccounted, AllKept, FewKept}
 
 -- ---- lists
 all-none : (P : ℕ → Type 0) → All P []
@@ -202,31 +202,29 @@ keepAll-length d y ks (i ∷ is) = omega (arith, keepAll-length d y (keep d y ks
 
 -- ---- the theorems
 
--- d is the least distance, y the row and qs its qualifying apexes; keepAll d y [] qs are those kept, the newest first
-module _ (d : ℕ) (y : List Float) (qs : List ℕ) where
-  -- every apex kept is a qualifying one
-  pub kept-qualify : All (λ k. k ∈ qs) (keepAll d y [] qs)
-  kept-qualify = keepAll-all (λ k. k ∈ qs) d y [] qs (all-none (λ k. k ∈ qs)) (λ k m. m)
+-- every apex kept is a qualifying one
+pub kept-qualify : KeptQualify
+kept-qualify d y qs = keepAll-all (λ k. k ∈ qs) d y [] qs (all-none (λ k. k ∈ qs)) (λ k m. m)
 
-  -- the apexes kept descend: read from the oldest on they ascend
-  pub kept-descend : Ascending qs → Descending (keepAll d y [] qs)
-  kept-descend a = falling-descending d (keepAll d y [] qs) (kept-falling d y qs a)
+-- the apexes kept descend: read from the oldest on they ascend
+pub kept-descend : KeptDescend
+kept-descend d y qs a = falling-descending d (keepAll d y [] qs) (kept-falling d y qs a)
 
-  -- any two apexes kept are at least d apart
-  pub kept-apart : Ascending qs → (i j : ℕ) → i ∈ keepAll d y [] qs → j ∈ keepAll d y [] qs → i ≢ j → d ≤ dist i j
-  kept-apart a = falling-apart d (keepAll d y [] qs) (kept-falling d y qs a)
+-- any two apexes kept are at least d apart
+pub kept-apart : KeptApart
+kept-apart d y qs a = falling-apart d (keepAll d y [] qs) (kept-falling d y qs a)
 
-  -- every qualifying apex is kept, or gives way, step by step, to one that is
-  pub all-accounted : Ascending qs → NoNan y qs → All (Accounted d y qs (keepAll d y [] qs)) qs
-  all-accounted a h i m = keepAll-accounts d y qs h [] qs (all-none (λ k. k ∈ qs)) (λ k n. n) a (none-before qs) i (inr m)
+-- every qualifying apex is kept, or gives way, step by step, to one that is
+pub all-accounted : AllAccounted
+all-accounted d y qs a h i m = keepAll-accounts d y qs h [] qs (all-none (λ k. k ∈ qs)) (λ k n. n) a (none-before qs) i (inr m)
 
-  -- with a least distance of 0 or 1 every qualifying apex is kept
-  pub all-kept : d ≤ 1 → Ascending qs → keepAll d y [] qs ≡ reverse qs
-  all-kept h a = keepAll-adds d y [] qs h a (none-before qs)
+-- with a least distance of 0 or 1 every qualifying apex is kept
+pub all-kept : AllKept
+all-kept d y qs h a = keepAll-adds d y [] qs h a (none-before qs)
 
-  -- no more apexes are kept than qualify
-  pub kept-length : length (keepAll d y [] qs) ≤ length qs
-  kept-length = omega (arith, keepAll-length d y [] qs)
+-- no more apexes are kept than qualify
+pub kept-length : FewKept
+kept-length d y qs = omega (arith, keepAll-length d y [] qs)
 
 -- the apexes may come in two parts, one after the other
 pub keepAll-append : (d : ℕ) (y : List Float) (ks a b : List ℕ) → keepAll d y ks (a ++ b) ≡ keepAll d y (keepAll d y ks a) b

@@ -20,9 +20,10 @@ use Rattle.apex.proofs.Candidates.{one-more, none-more, count-to}
 use Rattle.params.specs.Params.{mostPeaks}
 use Rattle.params.specs.declared.ImDetectParams.{ImDetectParams}
 use Rattle.rowsearch.specs.Suppression.{keep, keepAll}
-use Rattle.rowsearch.specs.Account.{_∈_, All, Ascending, NoNan}
+use Rattle.rowsearch.specs.Account.{_∈_, All, Ascending}
 use Rattle.rowsearch.proofs.Account.{ascending-append, keepAll-append, kept-length}
 use Rattle.rowsearch.specs.Qualifying.{highest, reaches, qualifies, thatQualify, qualifying, kept}
+use Rattle.rowsearch.specs.QualifyingLaws.{OnlyQualifying, AllQualifying, QualifyingAscend, QualifyingNumbers, KeptCount}
 
 -- ---- the qualifying apexes
 
@@ -106,33 +107,32 @@ qualify-all p y (j ∷ is) i m h = go (qualifies p y j) refl (λ n. qualify-all 
     go false e f (inl q) = clash (qualifies p y j) (rw q at h) e
     go false e f (inr n) = f n
 
-module _ (p : ImDetectParams) (y z : List Float) where
-  -- the qualifying apexes ascend, strictly
-  pub qualifying-ascend : Ascending (qualifying p y z)
-  unfolding qualifying
-  qualifying-ascend = go (reaches (p .«min_prom») (highest 𝟎 z))
-    where
-      go : (b : Bool) → Ascending (cond b (thatQualify p y (candidates y)) [])
-      go true = qualify-ascend p y (candidates y) (candidates-ascend y (length y - 2))
-      go false = tt
+-- the qualifying apexes ascend, strictly
+pub qualifying-ascend : QualifyingAscend
+unfolding qualifying
+qualifying-ascend p y z = go (reaches (p .«min_prom») (highest 𝟎 z))
+  where
+    go : (b : Bool) → Ascending (cond b (thatQualify p y (candidates y)) [])
+    go true = qualify-ascend p y (candidates y) (candidates-ascend y (length y - 2))
+    go false = tt
 
-  -- each is a candidate of the row that qualifies, between its first sample and its last
-  pub qualifying-listed : All (λ i. Listed y (length y - 2) i × (qualifies p y i ≡ true)) (qualifying p y z)
-  unfolding qualifying
-  qualifying-listed i m = go (reaches (p .«min_prom») (highest 𝟎 z)) m
-    where
-      go : (b : Bool) → i ∈ cond b (thatQualify p y (candidates y)) [] → Listed y (length y - 2) i × (qualifies p y i ≡ true)
-      go true n = let r = qualify-some p y (candidates y) i n in (candidates-listed y (length y - 2) i (r .0), r .1)
-      go false n = absurd (List·Memᴰ·not-nil n)
+-- each is a candidate of the row that qualifies, between its first sample and its last
+pub qualifying-listed : OnlyQualifying
+unfolding qualifying
+qualifying-listed p y z i m = go (reaches (p .«min_prom») (highest 𝟎 z)) m
+  where
+    go : (b : Bool) → i ∈ cond b (thatQualify p y (candidates y)) [] → Listed y (length y - 2) i × (qualifies p y i ≡ true)
+    go true n = let r = qualify-some p y (candidates y) i n in (candidates-listed y (length y - 2) i (r .0), r .1)
+    go false n = absurd (List·Memᴰ·not-nil n)
 
-  -- and in a row that reaches the floor every such candidate is one of them
-  pub qualifying-complete : (i : ℕ) → reaches (p .«min_prom») (highest 𝟎 z) ≡ true → Listed y (length y - 2) i → qualifies p y i ≡ true → i ∈ qualifying p y z
-  unfolding qualifying
-  qualifying-complete i g r h = rw g (qualify-all p y (candidates y) i (candidates-complete y (length y - 2) i r) h)
+-- and in a row that reaches the floor every such candidate is one of them
+pub qualifying-complete : AllQualifying
+unfolding qualifying
+qualifying-complete p y z i g r h = rw g (qualify-all p y (candidates y) i (candidates-complete y (length y - 2) i r) h)
 
-  -- each height is a number
-  pub qualifying-no-nan : NoNan y (qualifying p y z)
-  qualifying-no-nan i m = no-nan y i (qualifying-listed i m .0 .is)
+-- each height is a number
+pub qualifying-no-nan : QualifyingNumbers
+qualifying-no-nan p y z i m = no-nan y i (qualifying-listed p y z i m .0 .is)
 
 -- ---- one sample after another
 
@@ -202,7 +202,7 @@ kept-to-count p y k =
       count-to y k,
     )
 
-pub kept-count : (p : ImDetectParams) (y z : List Float) → length (kept p y z) ≤ mostPeaks (length y)
+pub kept-count : KeptCount
 kept-count p y z = go (reaches (p .«min_prom») (highest 𝟎 z)) refl
   where
     go : (b : Bool) → reaches (p .«min_prom») (highest 𝟎 z) ≡ b → length (kept p y z) ≤ mostPeaks (length y)

@@ -4,3 +4,4 @@ pub mod Suppression
 pub mod Account
 pub mod Found
 pub mod Cases
+pub mod QualifyingLaws

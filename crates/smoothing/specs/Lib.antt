@@ -4,3 +4,4 @@ pub mod Answer
 pub mod Steps
 pub mod InRange
 pub mod Cases
+pub mod SmoothLaws

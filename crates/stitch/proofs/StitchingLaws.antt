@@ -15,13 +15,13 @@ use lib.ListN.{length, getD, take, drop, length-append, length-drop, length-map,
 use lib.Seq.{take-suc, take-at, drop-at, ext-getD, getD-drop, getD-append-seam}
 use Rattle.numeric.proofs.Laws.{clash}
 use Rattle.record.specs.Record.{size}
-use Rattle.matching.specs.declared.StitchParams.{StitchParams}
 use Rattle.ordering.specs.Ordering.{keyAt, sortedBy, Within}
 use Rattle.ordering.proofs.OrderingLaws.{sort-length, sort-keeps, sort-given, sort-distinct}
 use Rattle.ordering.specs.declared.inner.KeyRule.{KeyRule}
 use Rattle.grouping.specs.Grouping.{groups, marked, Columned}
 use Rattle.grouping.proofs.GroupingLaws.{groups-flatten, groups-count, marked-length, member-number, other-number}
-use Rattle.stitch.specs.Stitching.{upTo, passGroups, has, numberIn, firstRule, secondRule, firstGroups, mergedList, secondGroups}
+use Rattle.stitch.specs.Stitching.{upTo, passGroups, has, numberIn, firstRule, secondRule, firstGroups, mergedList}
+use Rattle.stitch.specs.StitchingLaws.{EachGrouped, EachNumbered, EachOwned, FewStitched}
 
 -- ---- the places up to n
 
@@ -147,27 +147,28 @@ module _ (list : List ℕ) (rule : KeyRule) (n : ℕ) where
       number-has (groups list rule order) p
       (subst (List·Memᴰ p) (sym (groups-flatten list rule order)) (sort-keeps (keyAt list rule) (upTo n) p (upto-has n p h)))
 
-  pub pass-group : (p : ℕ) → p < n → List·Memᴰ p (getD (passGroups list rule n) (numberIn (passGroups list rule n) p) [])
-  pass-group p h = pass-has p h .0
+pub pass-group : EachGrouped
+pass-group list rule n p h = pass-has list rule n p h .0
 
-  pub pass-number : (p : ℕ) → p < n → numberIn (passGroups list rule n) p < length (passGroups list rule n)
-  pass-number p h = pass-has p h .1
+pub pass-number : EachNumbered
+pass-number list rule n p h = pass-has list rule n p h .1
 
-  -- the column of the pass
+-- the column of the pass
+module _ (list : List ℕ) (rule : KeyRule) (n : ℕ) where
   module _ (column : List ℕ) (room : n ≤ length column) where
     front-column : take n (marked 0 (passGroups list rule n) column) ≡ map (numberIn (passGroups list rule n)) (upTo n)
     unfolding passGroups
     front-column =
-        front-map (marked 0 (groups list rule order) column) (numberIn (groups list rule order)) n
-        (omega (arith, marked-length 0 (groups list rule order) column))
-        (λ k h. member-number list rule order column k (sort-distinct (keyAt list rule) (upTo n) (upto-distinct n)) (omega arith) (numberIn (groups list rule order) k) (pass-group k h))
+        front-map (marked 0 (groups list rule (order list rule n)) column) (numberIn (groups list rule (order list rule n))) n
+        (omega (arith, marked-length 0 (groups list rule (order list rule n)) column))
+        (λ k h. member-number list rule (order list rule n) column k (sort-distinct (keyAt list rule) (upTo n) (upto-distinct n)) (omega arith) (numberIn (groups list rule (order list rule n)) k) (pass-group list rule n k h))
 
     back-column : drop n (marked 0 (passGroups list rule n) column) ≡ drop n column
     unfolding passGroups
     back-column =
-        let made = marked 0 (groups list rule order) column in
+        let made = marked 0 (groups list rule (order list rule n)) column in
         ext-getD 0 (drop n made) (drop n column) (simp (length-drop, marked-length))
-        (λ k h. getD-drop n made k 0 ∙ other-number list rule order column (n + k) (λ m. let l = order-lt (n + k) m in absurd (omega arith)) ∙ sym (getD-drop n column k 0))
+        (λ k h. getD-drop n made k 0 ∙ other-number list rule (order list rule n) column (n + k) (λ m. let l = order-lt list rule n (n + k) m in absurd (omega arith)) ∙ sym (getD-drop n column k 0))
 
     pub pass-column : (start : List ℕ) → drop n column ≡ drop n start → marked 0 (passGroups list rule n) column ≡ map (numberIn (passGroups list rule n)) (upTo n) ++ drop n start
     pass-column start e =
@@ -176,15 +177,14 @@ module _ (list : List ℕ) (rule : KeyRule) (n : ℕ) where
 
 -- ---- both passes
 
-module _ (list : List ℕ) (params : StitchParams) (n : ℕ) where
-  -- at most as many stitched peaks as peaks
-  pub stitched-count : length (secondGroups list params n) ≤ n
-  stitched-count = omega (arith, pass-count (mergedList list params n) (secondRule params) (length (firstGroups list params n)), pass-count list (firstRule params) n)
+-- at most as many stitched peaks as peaks
+pub stitched-count : FewStitched
+stitched-count list params n = omega (arith, pass-count (mergedList list params n) (secondRule params) (length (firstGroups list params n)), pass-count list (firstRule params) n)
 
-  -- every owner is one of the stitched peaks
-  pub owner-lt : (p : ℕ) → p < n → numberIn (secondGroups list params n) (numberIn (firstGroups list params n) p) < length (secondGroups list params n)
-  owner-lt p h =
-      pass-number (mergedList list params n) (secondRule params) (length (firstGroups list params n)) (numberIn (firstGroups list params n) p) (pass-number list (firstRule params) n p h)
+-- every owner is one of the stitched peaks
+pub owner-lt : EachOwned
+owner-lt list params n p h =
+    pass-number (mergedList list params n) (secondRule params) (length (firstGroups list params n)) (numberIn (firstGroups list params n) p) (pass-number list (firstRule params) n p h)
 
 -- ---- numbers of numbers
 

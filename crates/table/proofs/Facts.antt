@@ -8,10 +8,9 @@ use native.Mathlib.Omega.{arith}
 use borrow.Author.Tests.{ltb-true, ltb-false, lt-ltb, le-ltb, le-leb}
 use lib.Dec.{leb, ltb}
 use lib.ListN.{length, getD, length-append, List·getD-append}
-use Rattle.params.specs.Params.{mostPeaks}
-use Rattle.table.specs.Sizes.{maxFields, maxLine, lineBytes, putRoom, lineRoom}
 use Rattle.table.specs.Text.{allDigits, valueFrom, value}
-use Rattle.table.specs.Print.{digit, digitsOf, decimal, hex8, followed, placesOf, floatsOf, peakLine}
+use Rattle.table.specs.Print.{digit, digitsOf, decimal, hex8, followed, placesOf, floatsOf}
+use Rattle.table.specs.Facts.{DigitsBack, OnlyDigits, NoLeadingZero, LineMost, LongestRow, RoomEnough}
 use Rattle.record.specs.declared.ImPeak1D.{ImPeak1D}
 
 -- ---- lengths
@@ -56,15 +55,15 @@ pub floats-length : (p : ImPeak1D) → length (floatsOf p) ≡ 37
 unfolding floatsOf
 floats-length p = refl
 
-pub line-most : (p : ImPeak1D) → length (peakLine p) ≤ lineBytes
+pub line-most : LineMost
 line-most p =
     let a : length (placesOf p) ≤ 55 = places-most p in let b : length (floatsOf p) ≡ 37 = floats-length p in simp length-append (omega arith)
 
 -- the sizes that follow from others
-pub longest-row : maxLine ≡ maxFields * (8 + 1)
+pub longest-row : LongestRow
 longest-row = refl
 
-pub room-enough : lineRoom ≡ mostPeaks maxFields * lineBytes + putRoom
+pub room-enough : RoomEnough
 room-enough = refl
 
 -- ---- ten digits are enough
@@ -110,7 +109,7 @@ value-digits (suc k) n h = go (ltb n 10) refl (value-digits k (n / 10) (tenth (s
     go true e r = omega arith
     go false e r = value-snoc 0 (digitsOf (suc k) (n / 10)) (digit (n % 10)) ∙ rw r (omega arith)
 
-pub value-decimal : (n : ℕ) → n < 2 ^ 32 → value (decimal n) ≡ n
+pub value-decimal : DigitsBack
 value-decimal n h = value-digits 9 n (let t : n < 10000000000 = omega arith in t)
 
 digits-snoc : (x : List ℕ) (d : ℕ) → allDigits x ≡ true → d < 10 → allDigits (x ++ (digit d ∷ [])) ≡ true
@@ -122,7 +121,7 @@ digits-snoc (b ∷ x) d h k = go (leb 48 b && leb b 57) h (digits-snoc x d)
     go true h r = r h k
     go false h r = h
 
-pub decimal-digits : (k n : ℕ) → allDigits (digitsOf k n) ≡ true
+pub decimal-digits : OnlyDigits
 unfolding digitsOf allDigits
 decimal-digits zero n = refl
 decimal-digits (suc k) n = go (ltb n 10) refl (decimal-digits k (n / 10))
@@ -133,7 +132,7 @@ decimal-digits (suc k) n = go (ltb n 10) refl (decimal-digits k (n / 10))
     go false e r = digits-snoc (digitsOf k (n / 10)) (n % 10) r (omega arith)
 
 -- no zero in front of any number but 0
-pub first-digit : (k n : ℕ) → 0 < n → n < 10 ^ suc k → 48 < getD (digitsOf (suc k) n) 0 0
+pub first-digit : NoLeadingZero
 unfolding digitsOf
 first-digit zero n p h = rw (lt-ltb n 10 h) (omega arith)
 first-digit (suc k) n p h = go (ltb n 10) refl (first-digit k (n / 10))

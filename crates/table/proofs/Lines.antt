@@ -21,7 +21,7 @@ use Rattle.table.specs.declared.Progress.{Progress}
 use Rattle.table.specs.declared.Verdict.{Verdict}
 use Rattle.table.specs.Text.{comma, onto, fields, allDigits, value, isNumber, allNumbers, isRow, paramsText, paramsFrom, paramsOf, lf, lfFrom, nextLine}
 use Rattle.table.specs.Table.{cr, lines, endsInCr, verdict}
-use Rattle.table.specs.Lines.{noLf}
+use Rattle.table.specs.Lines.{noLf, FirstLine, FirstLineBad, OnlyLine, ForeignRefused, LongRefused}
 
 -- ---- where a line ends
 
@@ -197,7 +197,7 @@ no-params (a ∷ b ∷ c ∷ []) h = go (isNumber maxNumber a) refl (isNumber ma
 no-params (a ∷ b ∷ c ∷ d ∷ fs) h = refl
 
 -- a line with a byte that is no digit and no comma is refused, as the first line and as any other
-pub refused : (s : Progress) (x : List ℕ) (b : ℕ) (y : List ℕ) → (leb 48 b && leb b 57) ≡ false → eqb b comma ≡ false → verdict s (x ++ (b ∷ y)) ≡ Verdict.Refused
+pub refused : ForeignRefused
 unfolding verdict paramsOf isRow
 refused Progress.Start x b y h e = rw (no-params (fields (x ++ (b ∷ y))) (bad-numbers maxNumber (fields (x ++ (b ∷ y))) (bad-fields x b y h e)))
 refused (Progress.Rows s) x b y h e = rw (bad-numbers maxNumber (fields (x ++ (b ∷ y))) (bad-fields x b y h e))
@@ -267,40 +267,38 @@ long-row fs h = go (allNumbers maxNumber fs) refl
     go false e = refl
 
 -- a line that, without its CR LF, has as many bytes as the longest row with its CR is refused, and so is any longer one
-pub long-refused : (s : Progress) (line : List ℕ) → maxLine ≤ length line → verdict s line ≡ Verdict.Refused
+pub long-refused : LongRefused
 unfolding verdict paramsOf isRow
 long-refused Progress.Start line h = let t = total-line line in rw (long-params (fields line) (omega (arith, t)))
 long-refused (Progress.Rows s) line h = let t = total-line line in rw (long-row (fields line) (omega (arith, t)))
 
 -- ---- the first line of a text, by its first LF
 
-module _ (bs : List ℕ) (k : ℕ) (h : nextLine bs 0 ≡ LineEnd.At k) where
-  front : take k bs ≡ lf-at 0 bs k h .0
-  front =
-      let t = lf-at 0 bs k h in
-      ap (take k) (t .2) ∙ take-at (t .0) (lf ∷ t .1) k (sym (t .3 ∙ zero-add (length (t .0))))
+front : (bs : List ℕ) (k : ℕ) (h : nextLine bs 0 ≡ LineEnd.At k) → take k bs ≡ lf-at 0 bs k h .0
+front bs k h =
+    let t = lf-at 0 bs k h in
+    ap (take k) (t .2) ∙ take-at (t .0) (lf ∷ t .1) k (sym (t .3 ∙ zero-add (length (t .0))))
 
-  -- it stands in front of CR LF
-  pub first-line : endsInCr (take k bs) ≡ true → lines bs ≡ take (k - 1) bs ∷ lines (drop (k + 1) bs)
-  first-line e =
-      let t = lf-at 0 bs k h in
-      let x = t .0 in
-      let n : k ≡ length x = t .3 ∙ zero-add (length x) in
-      let y = take (length x - 1) x in
-      let a : x ≡ y ++ (cr ∷ []) = cr-last x (ap endsInCr (sym front) ∙ e) in
-      let b : bs ≡ y ++ (cr ∷ lf ∷ t .1) = t .2 ∙ ap (λ (z : List ℕ). z ++ (lf ∷ t .1)) a ∙ append-assoc y (cr ∷ []) (lf ∷ t .1) in
-      let d : drop (k + 1) bs ≡ t .1 = ap (drop (k + 1)) (t .2) ∙ ap (λ (z : ℕ). drop (z + 1) (x ++ (lf ∷ t .1))) n ∙ drop-append-add x (lf ∷ t .1) 1 in
-      let f : take (k - 1) bs ≡ y = sym (take-take (k - 1) k bs (omega arith)) ∙ ap (take (k - 1)) front ∙ ap (λ (z : ℕ). take (z - 1) x) n in
-      rw (d, f) (ap lines b ∙ line-ends y (t .1) (no-lf-front y (cr ∷ []) (ap noLf (sym a) ∙ t .4)))
+-- it stands in front of CR LF
+pub first-line : FirstLine
+first-line bs k h e =
+    let t = lf-at 0 bs k h in
+    let x = t .0 in
+    let n : k ≡ length x = t .3 ∙ zero-add (length x) in
+    let y = take (length x - 1) x in
+    let a : x ≡ y ++ (cr ∷ []) = cr-last x (ap endsInCr (sym (front bs k h)) ∙ e) in
+    let b : bs ≡ y ++ (cr ∷ lf ∷ t .1) = t .2 ∙ ap (λ (z : List ℕ). z ++ (lf ∷ t .1)) a ∙ append-assoc y (cr ∷ []) (lf ∷ t .1) in
+    let d : drop (k + 1) bs ≡ t .1 = ap (drop (k + 1)) (t .2) ∙ ap (λ (z : ℕ). drop (z + 1) (x ++ (lf ∷ t .1))) n ∙ drop-append-add x (lf ∷ t .1) 1 in
+    let f : take (k - 1) bs ≡ y = sym (take-take (k - 1) k bs (omega arith)) ∙ ap (take (k - 1)) (front bs k h) ∙ ap (λ (z : ℕ). take (z - 1) x) n in
+    rw (d, f) (ap lines b ∙ line-ends y (t .1) (no-lf-front y (cr ∷ []) (ap noLf (sym a) ∙ t .4)))
 
-  -- or is refused, whatever has been accepted before
-  pub first-line-bad : endsInCr (take k bs) ≡ false
-      → (line : List ℕ) × (more : List (List ℕ)) × (lines bs ≡ line ∷ more) × ((s : Progress) → verdict s line ≡ Verdict.Refused)
-  first-line-bad e =
-      let t = lf-at 0 bs k h in
-      let u = lone-lf (t .0) (t .1) (t .4) (ap endsInCr (sym front) ∙ e) in
-      (t .0 ++ (lf ∷ u .0), u .1, ap lines (t .2) ∙ u .2, λ s. lf-refused s (t .0) (u .0))
+-- or is refused, whatever has been accepted before
+pub first-line-bad : FirstLineBad
+first-line-bad bs k h e =
+    let t = lf-at 0 bs k h in
+    let u = lone-lf (t .0) (t .1) (t .4) (ap endsInCr (sym (front bs k h)) ∙ e) in
+    (t .0 ++ (lf ∷ u .0), u .1, ap lines (t .2) ∙ u .2, λ s. lf-refused s (t .0) (u .0))
 
 -- with no LF, the whole text is one line
-pub only-line : (bs : List ℕ) → nextLine bs 0 ≡ LineEnd.Missing → 0 < length bs → lines bs ≡ bs ∷ []
+pub only-line : OnlyLine
 only-line bs h p = last-line bs (lf-missing 0 bs h) p

@@ -5,3 +5,4 @@ pub mod Print
 pub mod Table
 pub mod Lines
 pub mod Cases
+pub mod Facts

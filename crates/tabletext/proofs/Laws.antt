@@ -20,10 +20,10 @@ use Rattle.table.specs.Text.{onto, lf, lfFrom, nextLine}
 use Rattle.table.specs.Table.{cr, lines, endsInCr, verdict, printedFrom}
 use Rattle.table.specs.Lines.{noLf}
 use Rattle.table.proofs.Lines.{last-line, lf-at, first-line, first-line-bad, long-refused}
-use Rattle.peaklines.specs.TableText.{peaksText, tableText, lineText, behindLine}
+use Rattle.peaklines.specs.TableText.{peaksText, lineText, behindLine}
 use Rattle.peaklines.proofs.TableLaws.{line-by-line}
 use Rattle.tabletext.specs.declared.inner.Fed.{Fed}
-use Rattle.tabletext.specs.Bytes.{textFrom, textLeft, Put, afterLine}
+use Rattle.tabletext.specs.Bytes.{textFrom, WholeText, textLeft, Put, afterLine}
 
 -- ---- the text of a line and what comes behind it
 pub text-refused : (s : Progress) (line : List ℕ) (more : List (List ℕ)) → verdict s line ≡ Verdict.Refused → printedFrom peaksText s (line ∷ more) ≡ refusal
@@ -217,5 +217,5 @@ module _ (bytes : List ℕ) (from i : ℕ) (h : nextLine bytes from ≡ LineEnd.
       (ap noLf x ∙ t .4, (t .1, t .2 ∙ sym (append-assoc (t .0) (lf ∷ []) (t .1)) ∙ ap (λ (l : List ℕ). (l ++ (lf ∷ [])) ++ t .1) (sym x)))
 
 -- what is printed from the start on is the table
-pub whole-text : (bytes : List ℕ) → textFrom Progress.Start bytes ≡ tableText bytes
+pub whole-text : WholeText
 whole-text bytes = refl

@@ -9,12 +9,16 @@ use Rattle.table.specs.declared.Verdict.{Verdict}
 use Rattle.table.specs.Sizes.{lineRoom}
 use Rattle.table.specs.Table.{lines, printedFrom}
 use Rattle.table.specs.Lines.{noLf}
-use Rattle.peaklines.specs.TableText.{peaksText}
+use Rattle.peaklines.specs.TableText.{peaksText, tableText}
 use Rattle.tabletext.specs.declared.inner.Fed.{Fed}
 
 -- What is printed for bytes, from what has been accepted before them on.
 abbrev pub textFrom : Progress → List ℕ → List ℕ
 textFrom s bytes = printedFrom peaksText s (lines bytes)
+
+-- from the start on, it is the table: `whole-text` in proofs/Laws.antt
+abbrev pub WholeText : Type 0
+WholeText = (bytes : List ℕ) → textFrom Progress.Start bytes ≡ tableText bytes
 
 -- what is printed for the bytes that are left: nothing behind a refusal
 abbrev pub textLeft : Fed → List ℕ → List ℕ

@@ -12,8 +12,8 @@ use lib.Ieee.Back.{round-whole}
 use lib.Ieee.Fits.{down-pos}
 use Rattle.limits.specs.Limits.{maxTofBound}
 use Rattle.numeric.specs.Arith.{_⊕_, _⊗_, ½, indexF}
-use Rattle.tof.specs.declared.TofScale.{TofScale}
-use Rattle.tof.specs.Tof.{Sound, edge, centerF}
+use Rattle.tof.specs.Tof.{edge, centerF}
+use Rattle.tof.specs.Exact.{EdgeExact, CenterExact}
 use Rattle.tof.proofs.TofLaws.{edges-held, upper-edge}
 
 -- a fraction that is q times a power of 2, for a q of at most 24 binary digits
@@ -63,12 +63,12 @@ whole-half (fin false m e) a v h =
     subst (λ (z : ℕ). HasValue (round binary32 false z (2 * d)) false a 2) (sym n)
     (reduced (round binary32 false (a * d) (2 * d)) (a * d) (2 * d) a 2 p (mul-assoc a d 2 ∙ ap (λ (z : ℕ). a * z) (mul-comm d 2)) (rounds (a * d) (2 * d) a 148 p h (lit≤ tt) f))
 
-edge-value : (n : ℕ) → n ≤ maxTofBound → HasValue (indexF n) false n 1
+pub edge-value : EdgeExact
 unfolding ofInt
 edge-value n h = round-whole binary32 false n (omega arith)
 
 -- the centre of a bin is half the sum of its edges
-pub center-exact : (s : TofScale) → Sound s → (i : ℕ) → i < s .«num_bins» → HasValue (centerF s i) false (edge s i + edge s (i + 1)) 2
+pub center-exact : CenterExact
 unfolding centerF
 center-exact s h i b =
     let u = edges-held s h i b in

@@ -9,18 +9,17 @@ use native.Mathlib.Omega.{arith}
 use borrow.Author.Tests.{leb-true, leb-false, le-leb, lt-leb, lt-ltb, ltb-true, eq-eqb, eqb-true, not-false}
 use lib.Dec.{leb, ltb, eqb}
 use lib.ListN.{length, getD}
-use Rattle.refusal.specs.Refusal.{firstOf, ascendingFrom, Lowest}
+use Rattle.refusal.specs.Refusal.{firstOf, ascendingFrom}
 use Rattle.refusal.proofs.RefusalLaws.{lowest-by, none-by, appliesFor}
 use Rattle.refusal.proofs.Bools.{clash, both, all5}
 use Rattle.refusal.specs.Answers.{Says}
 use Rattle.refusal.specs.AnswersLaws.{fromOption}
-use Rattle.limits.specs.Limits.{maxStep, maxTof, maxRows, maxTofBound}
+use Rattle.limits.specs.Limits.{maxStep, maxTof, maxTofBound}
 use Rattle.params.specs.Params.{allUpTo, soundTof}
 use Rattle.tof.specs.declared.TofScale.{TofScale}
-use Rattle.tof.specs.declared.inner.Span.{Span}
-use Rattle.tof.specs.declared.BuildAnswer.{BuildAnswer}
-use Rattle.tof.specs.TofAnswers.{buildChecks, buildNumber, buildSays, buildAnswer}
-use Rattle.tof.specs.Tof.{Sound, edge, inScale, binOf, lastBin, windowBetween, windowBins, rowPlace, soundStep, soundEnds, agreeing, scaleChecks, scaleNumber, lowest, highest, rounded, scaleOf}
+use Rattle.tof.specs.TofAnswers.{buildChecks, buildNumber, buildAnswer}
+use Rattle.tof.specs.Tof.{Sound, edge, inScale, binOf, lastBin, windowBetween, windowBins, soundStep, soundEnds, agreeing, scaleChecks, scaleNumber, lowest, highest, rounded, scaleOf}
+use Rattle.tof.specs.TofLaws.{ScaleLowest, BuildLowest, SoundAtZero, ZeroForSound, BinsHeld, EdgesHeld, LastEdge, BinBelow, BinEdges, RowHeld, CenterRounded, orElse, rustBetween, rustWindow, WindowIsRusts, OneValue, NoScale, BuiltSound}
 
 -- ---- numbers
 
@@ -32,10 +31,6 @@ module _ (s : TofScale) (value tofs : Bool) where
   ascending : ascendingFrom 0 (scaleChecks s value tofs) ≡ true
   unfolding ascendingFrom
   ascending = refl
-
-  -- the number of a call is the lowest that applies
-  pub number-lowest : 0 < scaleNumber s value tofs → Lowest (scaleChecks s value tofs) (scaleNumber s value tofs)
-  number-lowest h = lowest-by (scaleChecks s value tofs) (scale-number-is s value tofs) ascending h
 
   -- where it is 0, the check with the number n does not apply
   none-for : (n : ℕ) → scaleNumber s value tofs ≡ 0 → appliesFor n (scaleChecks s value tofs) ≡ false
@@ -50,12 +45,15 @@ module _ (ts : List ℕ) (step : ℕ) where
   unfolding ascendingFrom
   build-ascending = refl
 
-  -- the same of building
-  pub build-lowest : 0 < buildNumber ts step → Lowest (buildChecks ts step) (buildNumber ts step)
-  build-lowest h = lowest-by (buildChecks ts step) (build-number-is ts step) build-ascending h
-
   none-builds : (n : ℕ) → buildNumber ts step ≡ 0 → appliesFor n (buildChecks ts step) ≡ false
   none-builds n z = none-by n (buildChecks ts step) (build-number-is ts step) build-ascending z
+
+-- each is the lowest that applies
+pub number-lowest : ScaleLowest
+number-lowest s value tofs h = lowest-by (scaleChecks s value tofs) (scale-number-is s value tofs) (ascending s value tofs) h
+
+pub build-lowest : BuildLowest
+build-lowest ts step h = lowest-by (buildChecks ts step) (build-number-is ts step) (build-ascending ts step) h
 
 -- ---- soundness
 
@@ -88,17 +86,17 @@ plain s h =
     }
 
 -- from 1 to 4,194,304 bins
-pub bins-held : (s : TofScale) → Sound s → (1 ≤ s .«num_bins») × (s .«num_bins» ≤ maxRows)
+pub bins-held : BinsHeld
 bins-held s h = let p = plain s h in let d = div-le-self (s .«tof_max» - s .«tof_min») (s .«tof_step») in (omega arith, omega arith)
 
 -- no number applies exactly when the scale is sound and the call's own values are in range
-pub no-number : (s : TofScale) (value tofs : Bool) → scaleNumber s value tofs ≡ 0 → Sound s × (value ≡ true) × (tofs ≡ true)
+pub no-number : SoundAtZero
 no-number s value tofs h =
     let p = both (soundStep (s .«tof_step»)) (not-false _ (none-for s value tofs 4 h)) in
     let q = both (soundEnds s) (not-false _ (none-for s value tofs 5 h)) in
     (record { step = p .0; ends = q .0; agree = not-false _ (none-for s value tofs 22 h) }, p .1, q .1)
 
-pub sound-number : (s : TofScale) → Sound s → scaleNumber s true true ≡ 0
+pub sound-number : ZeroForSound
 unfolding scaleNumber firstOf
 sound-number s h = rw (h .step, h .ends, h .agree)
 
@@ -113,83 +111,65 @@ scale-above s t b = leb-true (s .«tof_min») t (both (leb (s .«tof_min») t) b
 bins-rise : (k x y : ℕ) → 0 < k → x ≤ y → x / k ≤ y / k
 bins-rise k x y p h = le-div-iff-mul-le p .1 (let d : x / k * k ≤ x = div-mul-le-self x k in omega arith)
 
-module _ (s : TofScale) (h : Sound s) where
-  -- every bin's lower edge is at most the highest TOF, and its upper one at most what a peak's bounds may be
-  pub edge-le : (i : ℕ) → i < s .«num_bins» → edge s i ≤ s .«tof_max»
-  edge-le i b =
-      let p = plain s h in
-      let k : i ≤ (s .«tof_max» - s .«tof_min») / s .«tof_step» = omega arith in
-      let m : i * s .«tof_step» ≤ s .«tof_max» - s .«tof_min» = le-div-iff-mul-le (p .step-low) .0 k in
-      omega arith
+-- every bin's lower edge is at most the highest TOF, and its upper one at most what a peak's bounds may be
+pub edge-le : (s : TofScale) → Sound s → (i : ℕ) → i < s .«num_bins» → edge s i ≤ s .«tof_max»
+edge-le s h i b =
+    let p = plain s h in
+    let k : i ≤ (s .«tof_max» - s .«tof_min») / s .«tof_step» = omega arith in
+    let m : i * s .«tof_step» ≤ s .«tof_max» - s .«tof_min» = le-div-iff-mul-le (p .step-low) .0 k in
+    omega arith
 
-  pub edges-held : (i : ℕ) → i < s .«num_bins» → edge s (i + 1) ≤ maxTofBound
-  edges-held i b = let p = plain s h in let e = edge-le i b in let u = upper-edge s i in omega arith
+pub edges-held : EdgesHeld
+edges-held s h i b = let p = plain s h in let e = edge-le s h i b in let u = upper-edge s i in omega arith
 
-  -- a row's TOF values are such as number 5 lets pass; its bounds are not reversed, as they stand
-  pub row-held : (i : ℕ) → i < s .«num_bins» → soundTof (rowPlace s i) ≡ true
-  unfolding soundTof
-  row-held i b =
-      let p = plain s h in
-      let e = edges-held i b in
-      let u = upper-edge s i in
-      rw (
-        le-leb (edge s i + (s .«tof_step» + 1) / 2) maxTofBound (omega (arith, p .step-low)),
-        le-leb (edge s i) maxTofBound (omega arith),
-        le-leb (edge s i + s .«tof_step») maxTofBound (omega arith),
-      )
+-- a row's TOF values are such as number 5 lets pass; its bounds are not reversed, as they stand
+pub row-held : RowHeld
+unfolding soundTof
+row-held s h i b =
+    let p = plain s h in
+    let e = edges-held s h i b in
+    let u = upper-edge s i in
+    rw (
+      le-leb (edge s i + (s .«tof_step» + 1) / 2) maxTofBound (omega (arith, p .step-low)),
+      le-leb (edge s i) maxTofBound (omega arith),
+      le-leb (edge s i + s .«tof_step») maxTofBound (omega arith),
+    )
 
-  -- the last bin begins at the highest TOF
-  pub last-edge : edge s (lastBin s) ≡ s .«tof_max»
-  last-edge =
-      let p = plain s h in
-      let k = s .«tof_step» in
-      let d = s .«tof_max» - s .«tof_min» in
-      let z : d % k ≡ 0 = mod-eq-zero-of-dvd k (dvd-sub k (dvd-of-mod-eq-zero k (p .max-multiple)) (dvd-of-mod-eq-zero k (p .min-multiple))) in
-      let e : d / k * k + d % k ≡ d = div-add-mod' d k in
-      let l : lastBin s ≡ d / k = omega arith in
-      rw l (omega arith)
+-- the last bin begins at the highest TOF
+pub last-edge : LastEdge
+last-edge s h =
+    let p = plain s h in
+    let k = s .«tof_step» in
+    let d = s .«tof_max» - s .«tof_min» in
+    let z : d % k ≡ 0 = mod-eq-zero-of-dvd k (dvd-sub k (dvd-of-mod-eq-zero k (p .max-multiple)) (dvd-of-mod-eq-zero k (p .min-multiple))) in
+    let e : d / k * k + d % k ≡ d = div-add-mod' d k in
+    let l : lastBin s ≡ d / k = omega arith in
+    rw l (omega arith)
 
-  bin-within : (t : ℕ) → t ≤ s .«tof_max» → binOf s t < s .«num_bins»
-  bin-within t b =
-      let p = plain s h in
-      let m = bins-rise (s .«tof_step») (t - s .«tof_min») (s .«tof_max» - s .«tof_min») (p .step-low) (omega arith) in
-      omega arith
+bin-within : (s : TofScale) → Sound s → (t : ℕ) → t ≤ s .«tof_max» → binOf s t < s .«num_bins»
+bin-within s h t b =
+    let p = plain s h in
+    let m = bins-rise (s .«tof_step») (t - s .«tof_min») (s .«tof_max» - s .«tof_min») (p .step-low) (omega arith) in
+    omega arith
 
-  -- a TOF in the scale has a bin, and stands between its edges
-  pub bin-below : (t : ℕ) → inScale s t ≡ true → binOf s t < s .«num_bins»
-  bin-below t b = bin-within t (leb-true t (s .«tof_max») (both (leb (s .«tof_min») t) b .1))
+-- a TOF in the scale has a bin, and stands between its edges
+pub bin-below : BinBelow
+bin-below s h t b = bin-within s h t (leb-true t (s .«tof_max») (both (leb (s .«tof_min») t) b .1))
 
-  pub bin-edges : (t : ℕ) → inScale s t ≡ true → (edge s (binOf s t) ≤ t) × (t < edge s (binOf s t + 1))
-  bin-edges t b =
-      let p = plain s h in
-      let l = scale-above s t b in
-      let d : binOf s t * s .«tof_step» ≤ t - s .«tof_min» = div-mul-le-self (t - s .«tof_min») (s .«tof_step») in
-      let u : t - s .«tof_min» < (binOf s t + 1) * s .«tof_step» = div-lt-iff-lt-mul (p .step-low) .0 (omega arith) in
-      (omega arith, omega arith)
+pub bin-edges : BinEdges
+bin-edges s h t b =
+    let p = plain s h in
+    let l = scale-above s t b in
+    let d : binOf s t * s .«tof_step» ≤ t - s .«tof_min» = div-mul-le-self (t - s .«tof_min») (s .«tof_step») in
+    let u : t - s .«tof_min» < (binOf s t + 1) * s .«tof_step» = div-lt-iff-lt-mul (p .step-low) .0 (omega arith) in
+    (omega arith, omega arith)
 
 -- Twice the whole centre of a row is the sum of its edges, which is twice the exact centre, or one more where that sum is
 -- odd: the exact centre, a half rounded up, as the Rust's `round` gives it.
-pub center-rounded : (s : TofScale) (i : ℕ) → 2 * rowPlace s i .«tof_center» ≡ edge s i + edge s (i + 1) + s .«tof_step» % 2
+pub center-rounded : CenterRounded
 center-rounded s i = let u = upper-edge s i in omega arith
 
 -- ---- the window as the Rust has it
-
--- `index_of_tof`, with what stands for none
-orElse : TofScale → ℕ → ℕ → ℕ
-orElse s t d = cond (leb (s .«tof_min») t && leb t (s .«tof_max») && ltb (binOf s t) (s .«num_bins»)) (binOf s t) d
-
-abbrev rustBetween : TofScale → ℕ → ℕ → Span
-rustBetween s lo hi =
-    cond (leb hi (s .«tof_min»))
-    (record { lo = 0; hi = 0 })
-    (cond (leb (s .«tof_max») lo)
-    (record { lo = lastBin s; hi = lastBin s })
-    (let i = orElse s (max lo (s .«tof_min»)) 0 in
-    let j = orElse s (min hi (s .«tof_max»)) (lastBin s) in
-    record { lo = min i j; hi = max j i }))
-
-pub rustWindow : TofScale → ℕ → ℕ → Span
-rustWindow s a b = cond (leb a b) (rustBetween s a b) (rustBetween s b a)
 
 module _ (s : TofScale) (h : Sound s) where
   found : (t d : ℕ) → s .«tof_min» ≤ t → t ≤ s .«tof_max» → orElse s t d ≡ binOf s t
@@ -215,22 +195,22 @@ module _ (s : TofScale) (h : Sound s) where
           let n : max (binOf s u) (binOf s l) ≡ binOf s u = omega arith in
           rw (ep, eq, i, j, m, n)
 
-  -- none of what stands for none is ever reached, and the two bins come in order
-  pub window-is-rusts : (a b : ℕ) → windowBins s a b ≡ rustWindow s a b
-  unfolding windowBins rustWindow
-  window-is-rusts a b = go (leb a b) refl
-    where
-      go : (o : Bool) → leb a b ≡ o → windowBins s a b ≡ cond o (rustBetween s a b) (rustBetween s b a)
-      go true e =
-          let o = leb-true a b e in
-          let l : min a b ≡ a = omega arith in
-          let u : max a b ≡ b = omega arith in
-          rw (l, u) (between a b o)
-      go false e =
-          let o = leb-false a b e in
-          let l : min a b ≡ b = omega arith in
-          let u : max a b ≡ a = omega arith in
-          rw (l, u) (between b a (omega arith))
+-- none of what stands for none is ever reached, and the two bins come in order
+pub window-is-rusts : WindowIsRusts
+unfolding windowBins rustWindow
+window-is-rusts s h a b = go (leb a b) refl
+  where
+    go : (o : Bool) → leb a b ≡ o → windowBins s a b ≡ cond o (rustBetween s a b) (rustBetween s b a)
+    go true e =
+        let o = leb-true a b e in
+        let l : min a b ≡ a = omega arith in
+        let u : max a b ≡ b = omega arith in
+        rw (l, u) (between s h a b o)
+    go false e =
+        let o = leb-false a b e in
+        let l : min a b ≡ b = omega arith in
+        let u : max a b ≡ a = omega arith in
+        rw (l, u) (between s h b a (omega arith))
 
 -- ---- a scale of TOF values
 
@@ -265,7 +245,7 @@ bounds (t ∷ ts) zero h = (omega arith, omega arith)
 bounds (t ∷ ts) (suc i) h = let r = bounds ts i (omega arith) in (omega arith, omega arith)
 
 -- there is no scale exactly where any two values are one
-pub no-scale-one : (ts : List ℕ) → highest ts ≤ lowest ts → (i j : ℕ) → i < length ts → j < length ts → getD ts i 0 ≡ getD ts j 0
+pub no-scale-one : OneValue
 no-scale-one ts h i j a b = let p = bounds ts i a in let q = bounds ts j b in omega arith
 
 same : (v : ℕ) (ts : List ℕ) → v ≤ maxTof → ((i : ℕ) → i < length ts → getD ts i 0 ≡ v) → (highest ts ≤ v) × (v ≤ lowest ts)
@@ -276,8 +256,7 @@ same v (t ∷ ts) u h =
     let r = same v ts u (λ (i : ℕ) (k : i < length ts). h (suc i) (omega arith)) in
     (omega arith, omega arith)
 
-pub one-no-scale : (ts : List ℕ) → allUpTo maxTof ts ≡ true
-    → ((i j : ℕ) → i < length ts → j < length ts → getD ts i 0 ≡ getD ts j 0) → highest ts ≤ lowest ts
+pub one-no-scale : NoScale
 unfolding lowest highest
 one-no-scale [] u h = omega arith
 one-no-scale (t ∷ ts) u h =
@@ -307,7 +286,7 @@ scale-sound lo hi step p o u =
     }
 
 -- a scale that is built is sound, so that no entry refuses it for its numbers
-pub built-sound : (tofs : List ℕ) (step : ℕ) (s : TofScale) → buildAnswer tofs step ≡ buildSays (BuildAnswer.Scale s) → Sound s
+pub built-sound : BuiltSound
 unfolding buildAnswer
 built-sound tofs step s h = go (ltb (lowest tofs) (highest tofs)) refl (ap (λ (a : Says (Option TofScale)). fromOption (λ o. o) none (a .values)) h)
   where

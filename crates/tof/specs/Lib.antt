@@ -2,3 +2,6 @@
 pub mod Tof
 pub mod TofAnswers
 pub mod Cases
+pub mod TofLaws
+pub mod TofWhich
+pub mod Exact

@@ -12,6 +12,7 @@ use lib.Seq.{getD-at}
 use lib.Ieee.{nan, binary32, ofBits}
 use Rattle.numeric.specs.Arith.{at}
 use Rattle.wordbytes.specs.Bytes.{wordAt, wordsTo, wordsOf, floatsOf, bytesOfWord, bytesOf}
+use Rattle.wordbytes.specs.BytesLaws.{WordsBack, BytesBack}
 
 -- ---- the words of bytes
 
@@ -147,10 +148,6 @@ floats-drop b k = ap (map (ofBits binary32)) (words-drop b k) ∙ map-drop (ofBi
 
 -- ---- there and back
 
--- every number of a list is below a limit
-abbrev pub AllBelow : ℕ → List ℕ → Type 0
-AllBelow limit l = (i : ℕ) → i < length l → getD l i 0 < limit
-
 -- the byte of a number, and what is left of it
 low-byte : (n : ℕ) → n % 256 + 256 * (n / 256) ≡ n
 low-byte n = omega arith
@@ -178,7 +175,7 @@ word-back w h =
     (high-byte w h)
 
 -- words below 2^32, written as bytes, are read as they were
-pub words-back : (ws : List ℕ) → AllBelow (2 ^ 32) ws → wordsOf (bytesOf ws) ≡ ws
+pub words-back : WordsBack
 unfolding bytesOf wordsTo
 words-back [] h = refl
 words-back (w ∷ ws) h =
@@ -197,7 +194,7 @@ bytes-back-4 p q r s h0 h1 h2 h3 =
     rw (e0, e1, e2, e3)
 
 -- bytes below 256 of whole words, read as words, are the bytes of those words
-pub bytes-back : (b : List ℕ) → length b % 4 ≡ 0 → AllBelow 256 b → bytesOf (wordsOf b) ≡ b
+pub bytes-back : BytesBack
 unfolding bytesOf wordsTo
 bytes-back [] h a = refl
 bytes-back (p ∷ []) h a = absurd (omega arith)

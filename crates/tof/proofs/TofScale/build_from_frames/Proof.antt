@@ -9,8 +9,7 @@ use Rattle.refusal.proofs.AnswersLaws.{says-number, says-values}
 use Rattle.limits.specs.Limits.{maxTof}
 use Rattle.params.specs.Params.{allUpTo}
 use Rattle.tof.specs.TofAnswers.{buildChecks, buildNumber, buildAnswer}
-use Rattle.tof.proofs.TofLaws.{build-number-is}
-use Rattle.tof.proofs.TofLaws.{step-above, up-to-highest}
+use Rattle.tof.proofs.TofLaws.{build-number-is, step-above, up-to-highest}
 use Rattle.tof.proofs.TofScale.build_from_frames.Statement.{statement}
 use Rattle.tof.proofs.TofScale.build_from_frames.Tie as tie
 

@@ -1,6 +1,5 @@
-use Rattle.tof.proofs.TofLaws.{scale-above}
+use Rattle.tof.proofs.TofLaws.{scale-above, no-number, plain}
 use Rattle.tof.specs.TofAnswers.{binAnswer}
-use Rattle.tof.proofs.TofLaws.{no-number, plain}
 use Rattle.refusal.proofs.AnswersLaws.{says-number, says-values}
 use mathlib.Core.Path.{sym, _∙_}
 use borrow.Author.Needs.{needs}

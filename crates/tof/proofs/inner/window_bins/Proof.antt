@@ -1,6 +1,5 @@
-use Rattle.tof.proofs.TofLaws.{bins-held}
+use Rattle.tof.proofs.TofLaws.{bins-held, plain}
 use Rattle.tof.specs.Tof.{windowBins}
-use Rattle.tof.proofs.TofLaws.{plain}
 use borrow.Author.Tests.{le-leb, lt-leb}
 use native.Mathlib.Omega.{arith}
 use borrow.Author.Needs.{needs}
