@@ -5,7 +5,7 @@ use Prim.Native.Nat.{ℕ, _<_}
 use lib.Dec.{eqb}
 use Rattle.refusal.specs.Refusal.{Lowest}
 use Rattle.refusal.specs.Answers.{answerBy}
-use Rattle.grid.specs.Grid.{Grid}
+use Rattle.gridrows.specs.Grid.{Grid}
 use Rattle.grid.specs.GridNumber.{gridChecks, gridNumber, gridSays}
 use Rattle.grid.specs.declared.GridAnswer.{GridAnswer}
 use Rattle.grid.specs.declared.GridAnswer.the-variants.{Peaks, Refused}
