@@ -85,16 +85,16 @@ abbrev pub rightFoot : List Float → Float → ℕ → ℕ
 rightFoot y h i = min (i + runAbove h (drop i y)) (length y - 1)
 
 -- how much of the way from a to b it is to the height; none between equal readings
-unfoldable pub share : Float → Float → Float → Float
-share h a b = cond (ne b a) ((h ⊖ a) ⊘ (b ⊖ a)) 𝟎
+unfoldable pub partWay : Float → Float → Float → Float
+partWay h a b = cond (ne b a) ((h ⊖ a) ⊘ (b ⊖ a)) 𝟎
 
 -- where the row crosses the height left of i and right of it, in samples; at i itself where its reading is not above the height
 -- Where no reading on that side falls to the height, the line through the last two is taken all the same, so that the place may
 -- lie outside of the row. At the half height it does not, in a row that is accepted (rowlaws/specs/Enclosed.antt).
 unfoldable pub leftCrossing : List Float → Float → ℕ → Float
 leftCrossing y h i =
-    let w = leftFoot y h i in cond (ltb w i) (indexF w ⊕ share h (at y w) (at y (w + 1))) (indexF w)
+    let w = leftFoot y h i in cond (ltb w i) (indexF w ⊕ partWay h (at y w) (at y (w + 1))) (indexF w)
 
 unfoldable pub rightCrossing : List Float → Float → ℕ → Float
 rightCrossing y h i =
-    let w = rightFoot y h i in cond (ltb i w) (indexF (w - 1) ⊕ share h (at y (w - 1)) (at y w)) (indexF w)
+    let w = rightFoot y h i in cond (ltb i w) (indexF (w - 1) ⊕ partWay h (at y (w - 1)) (at y w)) (indexF w)

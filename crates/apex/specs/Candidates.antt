@@ -8,7 +8,7 @@ use lib.Ieee.{Float}
 use Rattle.apex.specs.Apex.{isCandidate, candidatesTo, candidates}
 
 -- an index among 1 .. k that is a candidate
-pub record Listed (y : List Float) (k i : ℕ) : Type 0 where
+pub record CandidateAt (y : List Float) (k i : ℕ) : Type 0 where
   pub low : 1 ≤ i
   pub high : i ≤ k
   pub is : isCandidate y i ≡ true
@@ -23,7 +23,7 @@ AtMostHalf = (y : List Float) → length (candidates y) ≤ (length y - 1) / 2
 
 -- every one that is listed is a candidate among 1 .. k: `listed`
 abbrev pub OnlyCandidates : Type 0
-OnlyCandidates = (y : List Float) (k j : ℕ) → j < length (candidatesTo y k) → Listed y k (getD (candidatesTo y k) j 0)
+OnlyCandidates = (y : List Float) (k j : ℕ) → j < length (candidatesTo y k) → CandidateAt y k (getD (candidatesTo y k) j 0)
 
 -- every candidate among 1 .. k is listed: `complete`
 abbrev pub AllCandidates : Type 0

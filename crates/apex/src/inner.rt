@@ -5,7 +5,7 @@ ghost use lib.ListN.{length};
 ghost use Rattle.limits.specs.Limits.{exactIndex};
 ghost use Rattle.numeric.specs.Arith.{at};
 ghost use Rattle.numeric.specs.Numeric.{maxF};
-ghost use Rattle.apex.specs.Apex.{isCandidate, leftOf, rightOf, upToHigher, least, baseline, riseOf, noneBelow, Ground, leftFoot, rightFoot, share, leftCrossing, rightCrossing};
+ghost use Rattle.apex.specs.Apex.{isCandidate, leftOf, rightOf, upToHigher, least, baseline, riseOf, noneBelow, Ground, leftFoot, rightFoot, partWay, leftCrossing, rightCrossing};
 
 // How far an apex rises above its baseline, and the height half of that above the baseline.
 pub struct Rise {
@@ -157,7 +157,7 @@ pub fn right_foot(y: &[f32], h: f32, i: usize) -> usize
 }
 
 fn share_of(h: f32, a: f32, b: f32) -> f32
-    ensures { λ r. ⌜ r ≡ share h a b ⌝ }
+    ensures { λ r. ⌜ r ≡ partWay h a b ⌝ }
 {
     if b != a { (h - a) / (b - a) } else { 0.0 }
 }

@@ -84,8 +84,8 @@ pub fn put_peaks(
     first: PeakId,
     out: &mut [u8],
 )
-    requires { ⌜ row.Ready (now y) (now z) (wordsOf (now scans)) first (length (now out) / 4) × (n ≤ mostPeaks (length (now y))) × ((ks : List ℕ) × Standing (now y) (now z) (now found) n ks) ⌝ }
-    ensures { λ _. ⌜ ((ks : List ℕ) → Standing (now (y .entry)) (now (z .entry)) (now (found .entry)) n ks → row.Listed asBytes place bounds (floatsOf (now (mobility .entry))) (wordsOf (now (scans .entry))) (now (y .entry)) (now (z .entry)) first (now (out .entry)) (now (out .exit)) n ks) ⌝ }
+    requires { ⌜ row.Writable (now y) (now z) (wordsOf (now scans)) first (length (now out) / 4) × (n ≤ mostPeaks (length (now y))) × ((ks : List ℕ) × Standing (now y) (now z) (now found) n ks) ⌝ }
+    ensures { λ _. ⌜ ((ks : List ℕ) → Standing (now (y .entry)) (now (z .entry)) (now (found .entry)) n ks → row.RecordsPut asBytes place bounds (floatsOf (now (mobility .entry))) (wordsOf (now (scans .entry))) (now (y .entry)) (now (z .entry)) first (now (out .entry)) (now (out .exit)) n ks) ⌝ }
 {
     for j in 0..n {
         let a = rowsearch::inner::measured_at(found, j);

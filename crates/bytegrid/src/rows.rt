@@ -11,7 +11,7 @@ ghost use Prim.Native.Nat.{_<_, _+_, _*_, _/_};
 ghost use lib.ListN.{length};
 ghost use Rattle.smoothing.specs.Smoothing.{normalised};
 ghost use Rattle.row.specs.Steps as row;
-ghost use Rattle.gridrows.specs.Steps.{gridOf, Handed, Listed, Lent, RowReady, RowDone, Ready, Done};
+ghost use Rattle.gridrows.specs.Steps.{gridOf, Handed, RowPut, Lent, RowReady, RowDone, Ready, Done};
 ghost use Rattle.wordbytes.specs.Bytes.{wordsOf, floatsOf};
 ghost use Rattle.bytegrid.specs.ByteGrid.{asBytes};
 
@@ -34,7 +34,7 @@ fn list_row(
     found: &mut [u32],
 ) -> usize
     requires { ⌜ Handed (now z) (wordsOf (now scans)) (now weights) (now u) first (length (now out) / 4) (length (now y)) (length (now turns)) (length (now bases)) (length (now found)) ⌝ }
-    ensures { λ n. ⌜ Listed asBytes place bounds (floatsOf (now (mobility .entry))) p (wordsOf (now (scans .entry))) (now (weights .entry)) (now (z .entry)) first (now (out .entry)) (now (out .exit)) n ⌝ }
+    ensures { λ n. ⌜ RowPut asBytes place bounds (floatsOf (now (mobility .entry))) p (wordsOf (now (scans .entry))) (now (weights .entry)) (now (z .entry)) first (now (out .entry)) (now (out .exit)) n ⌝ }
 {
     let sought = smoothrow::inner::search_row(z, p, weights, u, y, turns, bases, found);
     match sought {

@@ -8,13 +8,13 @@ use Rattle.refusal.specs.Refusal.{firstOf}
 use Rattle.numeric.specs.Arith.{indexF, 𝟎}
 use Rattle.numeric.specs.Numeric.{maxF, inRange, allInRange}
 use Rattle.rounding.specs.Rounding.{roundF}
-use Rattle.apex.specs.Apex.{isCandidate, candidatesTo, leftOf, upToHigher, least, baseline, prominence, halfHeight, runAbove, share, leftCrossing, rightCrossing}
+use Rattle.apex.specs.Apex.{isCandidate, candidatesTo, leftOf, upToHigher, least, baseline, prominence, halfHeight, runAbove, partWay, leftCrossing, rightCrossing}
 use Rattle.spans.specs.Span.{widthOf}
 use Rattle.record.specs.Record.{size, peakFrom, peakAt}
 use Rattle.params.specs.Params.{soundParams, soundBounds, allUpTo, rising, risingFrom}
 use Rattle.params.specs.declared.WindowGroup.the-variants.{Missing}
 use Rattle.rowsearch.specs.Suppression.{keep, keepAll}
-use Rattle.rowsearch.specs.Qualifying.{highest, leftX, rightX, width, qualifies, thatQualify, qualifying, kept}
+use Rattle.rowsearch.specs.Qualifying.{highestReading, leftX, rightX, width, qualifies, thatQualify, qualifying, kept}
 use Rattle.smoothrow.specs.SmoothRow.{searched}
 use Rattle.tof.specs.Tof.{soundStep, soundEnds, agreeing}
 use Rattle.gridrows.specs.Grid.{Grid, listedIn, countFrom, countTo}
@@ -37,9 +37,9 @@ unfolding gridNumber firstOf allInRange inRange soundParams soundBounds soundSte
 accepted = refl
 
 listed : (listedIn grid 0 ∷ listedIn grid 1 ∷ []) ≡ ((1 ∷ []) ∷ (1 ∷ []) ∷ [])
-unfolding listedIn searched kept qualifying highest thatQualify qualifies keepAll keep candidatesTo isCandidate leftX rightX width widthOf leftOf upToHigher least baseline prominence halfHeight runAbove share leftCrossing rightCrossing maxF roundF add sub mul div lt le ne isNan ofInt ofBits toUnsigned
+unfolding listedIn searched kept qualifying highestReading thatQualify qualifies keepAll keep candidatesTo isCandidate leftX rightX width widthOf leftOf upToHigher least baseline prominence halfHeight runAbove partWay leftCrossing rightCrossing maxF roundF add sub mul div lt le ne isNan ofInt ofBits toUnsigned
 listed = refl
 
 count : countTo grid 2 ≡ 2
-unfolding countFrom listedIn searched kept qualifying highest thatQualify qualifies keepAll keep candidatesTo isCandidate leftX rightX width widthOf leftOf upToHigher least baseline prominence halfHeight runAbove share leftCrossing rightCrossing maxF roundF add sub mul div lt le ne isNan ofInt ofBits toUnsigned
+unfolding countFrom listedIn searched kept qualifying highestReading thatQualify qualifies keepAll keep candidatesTo isCandidate leftX rightX width widthOf leftOf upToHigher least baseline prominence halfHeight runAbove partWay leftCrossing rightCrossing maxF roundF add sub mul div lt le ne isNan ofInt ofBits toUnsigned
 count = refl

@@ -32,7 +32,7 @@ use Rattle.row.proofs.Laws.{put-none, put-length}
 use Rattle.row.proofs.Laws as rows
 use Rattle.tof.specs.Tof.{rowPlace}
 use Rattle.gridrows.specs.Grid.{Grid, usedOf, rowOf, listedIn, wordsIn, countFrom, wordsFrom}
-use Rattle.gridrows.specs.Steps.{Handed, Listed, Lent, RowReady, RowDone, Ready, Done, numbered}
+use Rattle.gridrows.specs.Steps.{Handed, RowPut, Lent, RowReady, RowDone, Ready, Done, numbered}
 
 -- ---- which readings are worked on
 pub smooth-used : (raw smooth : List Float) → length raw ≡ 0 → usedOf raw smooth ≡ smooth
@@ -51,16 +51,16 @@ used-le raw smooth = go (eqb (length raw) 0)
 -- ---- one row
 
 -- what writing the records asks does not depend on what is searched
-pub ready-for : (y z : List Float) (axis : List ℕ) (first room : ℕ) → length y ≡ length z → row.Ready z z axis first room → row.Ready y z axis first room
+pub ready-for : (y z : List Float) (axis : List ℕ) (first room : ℕ) → length y ≡ length z → row.Writable z z axis first room → row.Writable y z axis first room
 ready-for y z axis first room e r =
     record { raw = sym e; scans = r .scans ∙ sym e; short = rw e (r .short); words = rw e (r .words); ids = rw e (r .ids) }
 
 module _ (w : Written) (place : RowPlace) (bounds : FrameBounds) (mobility : List Float) (p : ImDetectParams) (axis : List ℕ) (weights z : List Float) (first : ℕ) where
-  pub listed-by : (y : List Float) (d out : List ℕ) (n : ℕ) → searched weights z ≡ y → row.Listed w place bounds mobility axis y z first d out n (kept p y z)
-      → Listed w place bounds mobility p axis weights z first d out n
+  pub listed-by : (y : List Float) (d out : List ℕ) (n : ℕ) → searched weights z ≡ y → row.RecordsPut w place bounds mobility axis y z first d out n (kept p y z)
+      → RowPut w place bounds mobility p axis weights z first d out n
   listed-by y d out n e l = record { count = rw e (l .count); words = rw e (l .front) }
 
-  pub listed-none : (d : List ℕ) → kept p (searched weights z) z ≡ [] → Listed w place bounds mobility p axis weights z first d d 0
+  pub listed-none : (d : List ℕ) → kept p (searched weights z) z ≡ [] → RowPut w place bounds mobility p axis weights z first d d 0
   listed-none d e =
       let l = rows.listed-none place bounds mobility axis (searched weights z) z first w d in
       record { count = rw e; words = rw e (l .front) }
@@ -93,10 +93,10 @@ module _ (g : Grid) (u : List Float) (r room : ℕ) (h : RowReady g u r room) wh
       }
 
   pub row-done : (w : Written) (place : RowPlace) (z : List Float) (d out : List ℕ) (n : ℕ) → z ≡ rowOf g r → place ≡ rowPlace (g .scale) r
-      → Listed w place (g .bounds) (g .mobility) (g .params) (g .scans) (g .weights) z (g .first) d out n → RowDone w g r d out n
+      → RowPut w place (g .bounds) (g .mobility) (g .params) (g .scans) (g .weights) z (g .first) d out n → RowDone w g r d out n
   unfolding listedIn
   row-done w place z d out n e f l =
-      let k : Listed w (rowPlace (g .scale) r) (g .bounds) (g .mobility) (g .params) (g .scans) (g .weights) (rowOf g r) (g .first) d out n = rw (e, f) at l in
+      let k : RowPut w (rowPlace (g .scale) r) (g .bounds) (g .mobility) (g .params) (g .scans) (g .weights) (rowOf g r) (g .first) d out n = rw (e, f) at l in
       record { count = k .count; words = k .words }
 
 -- ---- some rows of a grid

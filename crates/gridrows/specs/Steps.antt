@@ -48,10 +48,10 @@ callGrid cols raw smooth scans scale bounds mobility p weights first =
 -- A row z that is handed in: what its search asks, and what writing its records asks, with room for so many words.
 pub record Handed (z : List Float) (axis : List ℕ) (weights u : List Float) (first room scratch turns bases found : ℕ) : Type 0 where
   pub search : smooth.Handed z weights u scratch turns bases found
-  pub row : row.Ready z z axis first room
+  pub row : row.Writable z z axis first room
 
 -- what is left of a row z of which n peaks are listed; `out₀` is what was lent
-pub record Listed (w : Written) (place : RowPlace) (bounds : FrameBounds) (mobility : List Float) (p : ImDetectParams) (axis : List ℕ) (weights z : List Float) (first : ℕ) (out₀ out : List ℕ) (n : ℕ) : Type 0 where
+pub record RowPut (w : Written) (place : RowPlace) (bounds : FrameBounds) (mobility : List Float) (p : ImDetectParams) (axis : List ℕ) (weights z : List Float) (first : ℕ) (out₀ out : List ℕ) (n : ℕ) : Type 0 where
   pub count : n ≡ length (kept p (searched weights z) z)
   pub words : out ≡ w .put (rowWords place bounds mobility axis (searched weights z) z first (kept p (searched weights z) z)) ++ drop (n * stride w) out₀
 

@@ -12,7 +12,7 @@ ghost use lib.ListN.{length, take, drop};
 ghost use Rattle.smoothing.specs.Smoothing.{normalised};
 ghost use Rattle.row.specs.Written.{asWords};
 ghost use Rattle.gridrows.specs.Grid.{usedOf};
-ghost use Rattle.gridrows.specs.Steps.{callGrid, Handed, Listed, Lent, RowReady, RowDone, Ready, Done};
+ghost use Rattle.gridrows.specs.Steps.{callGrid, Handed, RowPut, Lent, RowReady, RowDone, Ready, Done};
 
 // The n readings from `at` on of those that are worked on.
 pub fn row_part<'a>(raw: &'a [f32], smooth: &'a [f32], at: usize, n: usize) -> &'a [f32]
@@ -44,7 +44,7 @@ fn list_row(
     found: &mut [u32],
 ) -> usize
     requires { ⌜ Handed (now z) (now axis) (now weights) (now u) first (length (now out)) (length (now scratch)) (length (now turns)) (length (now bases)) (length (now found)) ⌝ }
-    ensures listed { λ n. ⌜ Listed asWords place bounds (now (mobility .entry)) p (now (axis .entry)) (now (weights .entry)) (now (z .entry)) first (now (out .entry)) (now (out .exit)) n ⌝ }
+    ensures listed { λ n. ⌜ RowPut asWords place bounds (now (mobility .entry)) p (now (axis .entry)) (now (weights .entry)) (now (z .entry)) first (now (out .entry)) (now (out .exit)) n ⌝ }
     ensures past { λ _. ⌜ drop (length (now (z .entry))) (now (scratch .exit)) ≡ drop (length (now (z .entry))) (now (scratch .entry)) ⌝ }
 {
     let sought = smoothrow::inner::search_row(z, p, weights, u, scratch, turns, bases, found);

@@ -19,13 +19,13 @@ count n = leb n maxCount
 abbrev pub maxShare : ℕ
 maxShare = 0x3f80_0000
 
-abbrev pub share : Float → Bool
-share x = inRange maxShare x
+abbrev pub isShare : Float → Bool
+isShare x = inRange maxShare x
 
 unfoldable pub soundStitch : StitchParams → Bool
 soundStitch p =
-    count (p .«min_overlap_frames») && count (p .«max_scan_delta») && share (p .«jaccard_min»)
-    && count (p .«max_tof_row_delta») && count (p .«min_im_overlap_scans») && share (p .«im_jaccard_min»)
+    count (p .«min_overlap_frames») && count (p .«max_scan_delta») && isShare (p .«jaccard_min»)
+    && count (p .«max_tof_row_delta») && count (p .«min_im_overlap_scans») && isShare (p .«im_jaccard_min»)
 
 -- ---- intervals of samples, ends included
 

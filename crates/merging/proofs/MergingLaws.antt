@@ -11,7 +11,7 @@ use borrow.Author.Tests.{ltb-true, ltb-false}
 use lib.Dec.{ltb}
 use Rattle.numeric.proofs.Laws.{clash}
 use Rattle.record.specs.declared.ImPeak1D.{ImPeak1D}
-use Rattle.merging.specs.Merging.{extreme, lowest, highest, isAny, merged}
+use Rattle.merging.specs.Merging.{extreme, lowestOf, highestOf, isAny, merged}
 use Rattle.merging.specs.MergingLaws.{Has, AllAny, tof, retention, frame, scan, absolute, low, high}
 use Rattle.merging.specs.MergingLaws.{LowestBelow, LowestOne, HighestAbove, HighestOne, MergedLow, MergedHigh, MergedId, TwiceLow, TwiceHigh, TwiceId}
 
@@ -111,7 +111,7 @@ lowest-below f p ps m = extreme-before min _ lowest-choice f p ps m
 pub lowest-one : LowestOne
 lowest-one f ps h = extreme-one min _ lowest-choice f ps h
 
-pub lowest-append : (f : ImPeak1D → ℕ) (ps qs : List ImPeak1D) → isAny ps ≡ true → isAny qs ≡ true → lowest f (ps ++ qs) ≡ min (lowest f ps) (lowest f qs)
+pub lowest-append : (f : ImPeak1D → ℕ) (ps qs : List ImPeak1D) → isAny ps ≡ true → isAny qs ≡ true → lowestOf f (ps ++ qs) ≡ min (lowestOf f ps) (lowestOf f qs)
 lowest-append f ps qs h k = extreme-append min _ lowest-choice f ps qs h k
 
 pub highest-above : HighestAbove
@@ -120,7 +120,7 @@ highest-above f p ps m = extreme-before max _ highest-choice f p ps m
 pub highest-one : HighestOne
 highest-one f ps h = extreme-one max _ highest-choice f ps h
 
-pub highest-append : (f : ImPeak1D → ℕ) (ps qs : List ImPeak1D) → isAny ps ≡ true → isAny qs ≡ true → highest f (ps ++ qs) ≡ max (highest f ps) (highest f qs)
+pub highest-append : (f : ImPeak1D → ℕ) (ps qs : List ImPeak1D) → isAny ps ≡ true → isAny qs ≡ true → highestOf f (ps ++ qs) ≡ max (highestOf f ps) (highestOf f qs)
 highest-append f ps qs h k = extreme-append max _ highest-choice f ps qs h k
 
 -- ---- the merged peak

@@ -18,11 +18,11 @@ extreme pick f [] = 0
 extreme pick f (p ∷ ps) = foldl (λ so q. pick so (f q)) (f p) ps
 
 -- the lowest value and the highest one
-abbrev pub lowest : (ImPeak1D → ℕ) → List ImPeak1D → ℕ
-lowest f ps = extreme min f ps
+abbrev pub lowestOf : (ImPeak1D → ℕ) → List ImPeak1D → ℕ
+lowestOf f ps = extreme min f ps
 
-abbrev pub highest : (ImPeak1D → ℕ) → List ImPeak1D → ℕ
-highest f ps = extreme max f ps
+abbrev pub highestOf : (ImPeak1D → ℕ) → List ImPeak1D → ℕ
+highestOf f ps = extreme max f ps
 
 -- the highest value of a float field, from the lowest finite float on
 unfoldable pub highestF : (ImPeak1D → Float) → List ImPeak1D → Float
@@ -115,22 +115,22 @@ widthOf from to = min (to - from + 1) 4294967295
 -- The peak into which a group is merged. Its ends in scans are its absolute bounds, and its identity is the least of the members'.
 unfoldable pub merged : List ImPeak1D → ImPeak1D
 merged ps =
-    let from = lowest (λ p. p .«left_abs») ps in
-    let to = highest (λ p. p .«right_abs») ps in
+    let from = lowestOf (λ p. p .«left_abs») ps in
+    let to = highestOf (λ p. p .«right_abs») ps in
     record {
       «tof_row» = wholeMean (λ p. p .«tof_row») ps;
       «tof_center» = wholeMean (λ p. p .«tof_center») ps;
-      «tof_lo» = lowest (λ p. p .«tof_lo») ps;
-      «tof_hi» = highest (λ p. p .«tof_hi») ps;
-      «rt_lo» = lowest (λ p. p .«rt_lo») ps;
-      «rt_hi» = highest (λ p. p .«rt_hi») ps;
-      «frame_id_lo» = lowest (λ p. p .«frame_id_lo») ps;
-      «frame_id_hi» = highest (λ p. p .«frame_id_hi») ps;
+      «tof_lo» = lowestOf (λ p. p .«tof_lo») ps;
+      «tof_hi» = highestOf (λ p. p .«tof_hi») ps;
+      «rt_lo» = lowestOf (λ p. p .«rt_lo») ps;
+      «rt_hi» = highestOf (λ p. p .«rt_hi») ps;
+      «frame_id_lo» = lowestOf (λ p. p .«frame_id_lo») ps;
+      «frame_id_hi» = highestOf (λ p. p .«frame_id_hi») ps;
       flags = flagsOf (oneGroup ps) (anyMobility ps) (anySigma ps);
       «window_group» = cond (oneGroup ps) (groupWord ps) 0;
       scan = wholeMean (λ p. p .scan) ps;
-      left = lowest (λ p. p .left) ps;
-      right = highest (λ p. p .right) ps;
+      left = lowestOf (λ p. p .left) ps;
+      right = highestOf (λ p. p .right) ps;
       «scan_abs» = wholeMean (λ p. p .«scan_abs») ps;
       «left_abs» = from;
       «right_abs» = to;
@@ -144,5 +144,5 @@ merged ps =
       «width_scans» = widthOf from to;
       «area_raw» = summed (λ p. p .«area_raw») ps;
       subscan = mean (λ p. p .subscan) ps;
-      id = lowest (λ p. p .id) ps;
+      id = lowestOf (λ p. p .id) ps;
     }

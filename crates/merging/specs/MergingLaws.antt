@@ -5,7 +5,7 @@ use mathlib.Core.Bool.{true}
 use mathlib.Core.List.{List, map, flatten, List·Memᴰ}
 use Prim.Native.Nat.{ℕ, _≤_}
 use Rattle.record.specs.declared.ImPeak1D.{ImPeak1D}
-use Rattle.merging.specs.Merging.{lowest, highest, isAny, merged}
+use Rattle.merging.specs.Merging.{lowestOf, highestOf, isAny, merged}
 
 -- ---- extremes of a field of a group's members
 
@@ -17,19 +17,19 @@ pub record Has (f : ImPeak1D → ℕ) (n : ℕ) (ps : List ImPeak1D) : Type 0 wh
 
 -- no member is below the lowest: `lowest-below` in proofs/MergingLaws.antt
 abbrev pub LowestBelow : Type 0
-LowestBelow = (f : ImPeak1D → ℕ) (p : ImPeak1D) (ps : List ImPeak1D) → List·Memᴰ p ps → lowest f ps ≤ f p
+LowestBelow = (f : ImPeak1D → ℕ) (p : ImPeak1D) (ps : List ImPeak1D) → List·Memᴰ p ps → lowestOf f ps ≤ f p
 
 -- and some member has it: `lowest-one`
 abbrev pub LowestOne : Type 0
-LowestOne = (f : ImPeak1D → ℕ) (ps : List ImPeak1D) → isAny ps ≡ true → Has f (lowest f ps) ps
+LowestOne = (f : ImPeak1D → ℕ) (ps : List ImPeak1D) → isAny ps ≡ true → Has f (lowestOf f ps) ps
 
 -- no member is above the highest: `highest-above`
 abbrev pub HighestAbove : Type 0
-HighestAbove = (f : ImPeak1D → ℕ) (p : ImPeak1D) (ps : List ImPeak1D) → List·Memᴰ p ps → f p ≤ highest f ps
+HighestAbove = (f : ImPeak1D → ℕ) (p : ImPeak1D) (ps : List ImPeak1D) → List·Memᴰ p ps → f p ≤ highestOf f ps
 
 -- and some member has it: `highest-one`
 abbrev pub HighestOne : Type 0
-HighestOne = (f : ImPeak1D → ℕ) (ps : List ImPeak1D) → isAny ps ≡ true → Has f (highest f ps) ps
+HighestOne = (f : ImPeak1D → ℕ) (ps : List ImPeak1D) → isAny ps ≡ true → Has f (highestOf f ps) ps
 
 -- ---- the merged peak
 
@@ -57,15 +57,15 @@ high absolute p = p .«right_abs»
 
 -- its low bounds are the lowest of the members': `merged-low` in proofs/MergingLaws.antt
 abbrev pub MergedLow : Type 0
-MergedLow = (b : Bound) (ps : List ImPeak1D) → low b (merged ps) ≡ lowest (low b) ps
+MergedLow = (b : Bound) (ps : List ImPeak1D) → low b (merged ps) ≡ lowestOf (low b) ps
 
 -- its high bounds are the highest: `merged-high`
 abbrev pub MergedHigh : Type 0
-MergedHigh = (b : Bound) (ps : List ImPeak1D) → high b (merged ps) ≡ highest (high b) ps
+MergedHigh = (b : Bound) (ps : List ImPeak1D) → high b (merged ps) ≡ highestOf (high b) ps
 
 -- its identity is the least: `merged-id`
 abbrev pub MergedId : Type 0
-MergedId = (ps : List ImPeak1D) → merged ps .id ≡ lowest (λ p. p .id) ps
+MergedId = (ps : List ImPeak1D) → merged ps .id ≡ lowestOf (λ p. p .id) ps
 
 -- ---- groups that are merged, and the merged peaks merged once more
 
@@ -75,12 +75,12 @@ AllAny gs = (g : List ImPeak1D) → List·Memᴰ g gs → isAny g ≡ true
 
 -- the low bounds are the lowest of all the members': `twice-low` in proofs/MergingLaws.antt
 abbrev pub TwiceLow : Type 0
-TwiceLow = (gs : List (List ImPeak1D)) → AllAny gs → (b : Bound) → low b (merged (map merged gs)) ≡ lowest (low b) (flatten gs)
+TwiceLow = (gs : List (List ImPeak1D)) → AllAny gs → (b : Bound) → low b (merged (map merged gs)) ≡ lowestOf (low b) (flatten gs)
 
 -- the high bounds are the highest: `twice-high`
 abbrev pub TwiceHigh : Type 0
-TwiceHigh = (gs : List (List ImPeak1D)) → AllAny gs → (b : Bound) → high b (merged (map merged gs)) ≡ highest (high b) (flatten gs)
+TwiceHigh = (gs : List (List ImPeak1D)) → AllAny gs → (b : Bound) → high b (merged (map merged gs)) ≡ highestOf (high b) (flatten gs)
 
 -- the identity is the least: `twice-id`
 abbrev pub TwiceId : Type 0
-TwiceId = (gs : List (List ImPeak1D)) → AllAny gs → merged (map merged gs) .id ≡ lowest (λ p. p .id) (flatten gs)
+TwiceId = (gs : List (List ImPeak1D)) → AllAny gs → merged (map merged gs) .id ≡ lowestOf (λ p. p .id) (flatten gs)

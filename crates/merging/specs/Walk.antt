@@ -9,7 +9,7 @@ use Rattle.merging.specs.declared.inner.Sums.{Sums}
 use Rattle.merging.specs.declared.inner.Bounds.{Bounds}
 use Rattle.merging.specs.declared.inner.Heights.{Heights}
 use Rattle.merging.specs.declared.inner.Merging.{Merging}
-use Rattle.merging.specs.Merging.{lowest, highest, highestF, summed, totalWeight, weightedSum, having, isAny, groupWord, oneGroup, anyMobility, firstMobility}
+use Rattle.merging.specs.Merging.{lowestOf, highestOf, highestF, summed, totalWeight, weightedSum, having, isAny, groupWord, oneGroup, anyMobility, firstMobility}
 
 unfoldable pub sumsOf : List ImPeak1D → Sums
 sumsOf ps = record {
@@ -24,16 +24,16 @@ sumsOf ps = record {
 
 unfoldable pub boundsOf : List ImPeak1D → Bounds
 boundsOf ps = record {
-  «tof_lo» = lowest (λ p. p .«tof_lo») ps;
-  «tof_hi» = highest (λ p. p .«tof_hi») ps;
-  «rt_lo» = lowest (λ p. p .«rt_lo») ps;
-  «rt_hi» = highest (λ p. p .«rt_hi») ps;
-  «frame_id_lo» = lowest (λ p. p .«frame_id_lo») ps;
-  «frame_id_hi» = highest (λ p. p .«frame_id_hi») ps;
-  left = lowest (λ p. p .left) ps;
-  right = highest (λ p. p .right) ps;
-  «left_abs» = lowest (λ p. p .«left_abs») ps;
-  «right_abs» = highest (λ p. p .«right_abs») ps;
+  «tof_lo» = lowestOf (λ p. p .«tof_lo») ps;
+  «tof_hi» = highestOf (λ p. p .«tof_hi») ps;
+  «rt_lo» = lowestOf (λ p. p .«rt_lo») ps;
+  «rt_hi» = highestOf (λ p. p .«rt_hi») ps;
+  «frame_id_lo» = lowestOf (λ p. p .«frame_id_lo») ps;
+  «frame_id_hi» = highestOf (λ p. p .«frame_id_hi») ps;
+  left = lowestOf (λ p. p .left) ps;
+  right = highestOf (λ p. p .right) ps;
+  «left_abs» = lowestOf (λ p. p .«left_abs») ps;
+  «right_abs» = highestOf (λ p. p .«right_abs») ps;
 }
 
 unfoldable pub heightsOf : List ImPeak1D → Heights
@@ -54,7 +54,7 @@ stateOf ps = record {
   mobility = firstMobility ps;
   «one_group» = oneGroup ps;
   group = groupWord ps;
-  id = lowest (λ p. p .id) ps;
+  id = lowestOf (λ p. p .id) ps;
 }
 
 -- the walk has come over these peaks, of which there is one at least

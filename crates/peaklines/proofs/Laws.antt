@@ -10,13 +10,13 @@ use lib.Ieee.{Float}
 use Rattle.numeric.specs.Arith.{𝟎}
 use Rattle.record.specs.declared.ImPeak1D.{ImPeak1D}
 use Rattle.params.specs.declared.ImDetectParams.{ImDetectParams}
-use Rattle.rowsearch.specs.Qualifying.{highest, reaches}
+use Rattle.rowsearch.specs.Qualifying.{highestReading, reaches}
 use Rattle.rowsearch.specs.Found.{oldest, Searchable}
 use Rattle.rowsearch.proofs.Laws.{Next}
 use Rattle.row.specs.Row.{peakOf}
 use Rattle.table.specs.Print.{peakLine}
 use Rattle.table.proofs.Facts.{line-most}
-use Rattle.peaklines.specs.RowLines.{placeOf, noFrames, linesOf, Ready, Printed}
+use Rattle.peaklines.specs.RowLines.{placeOf, noFrames, linesOf, Printable, Printed}
 
 -- a line has at most 92 bytes
 pub lines-most : (r : ℕ) (axis : List ℕ) (y : List Float) (es : List ℕ) → length (linesOf r axis y es) ≤ length es * 92
@@ -55,8 +55,8 @@ module _ (r : ℕ) (axis : List ℕ) (y : List Float) where
       rw (k .is) (one-printed (oldest j ks) d out last n m (k .apex) h (c ∙ ap (λ (x : List ℕ). n + length x) l) (o ∙ ap (λ (x : List ℕ). take n out ++ (x ++ drop m out)) l))
 
 -- a row that is ready and reaches the floor can be searched
-pub searchable : {p : ImDetectParams} {y : List Float} {axis : List ℕ} {room : ℕ} (turns bases found : ℕ) → Ready y axis room
-    → reaches (p .«min_prom») (highest 𝟎 y) ≡ true → length y ≤ turns → turns ≤ 2 * bases + 1 → 4 * turns ≤ found + 4 → Searchable p y y turns bases found
+pub searchable : {p : ImDetectParams} {y : List Float} {axis : List ℕ} {room : ℕ} (turns bases found : ℕ) → Printable y axis room
+    → reaches (p .«min_prom») (highestReading 𝟎 y) ≡ true → length y ≤ turns → turns ≤ 2 * bases + 1 → 4 * turns ≤ found + 4 → Searchable p y y turns bases found
 searchable turns bases found r f a b c =
     record {
       numbers = r .numbers;

@@ -35,7 +35,7 @@ abbrev pub rowLines : ImDetectParams → ℕ → List ℕ → List Float → Lis
 rowLines p r axis y = linesOf r axis y (kept p y y)
 
 -- a row of numbers with a clear sign and a scan for each sample, and room for its lines
-pub record Ready (y : List Float) (axis : List ℕ) (room : ℕ) : Type 0 where
+pub record Printable (y : List Float) (axis : List ℕ) (room : ℕ) : Type 0 where
   pub numbers : allInRange anyNumber y ≡ true
   pub scans : length axis ≡ length y
   pub short : length y ≤ maxFields

@@ -15,11 +15,11 @@ ghost use lib.ListN.{length, take, drop};
 ghost use Rattle.table.specs.Sizes.{lineRoom, maxFields, putRoom};
 ghost use Rattle.numeric.specs.Arith.{𝟎};
 ghost use Rattle.params.specs.Params.{mostPeaks};
-ghost use Rattle.rowsearch.specs.Qualifying.{highest, reaches};
+ghost use Rattle.rowsearch.specs.Qualifying.{highestReading, reaches};
 ghost use Rattle.rowsearch.specs.Found.{Searchable, Standing};
 ghost use Rattle.table.specs.Print.{peakLine};
 ghost use Rattle.table.specs.Table.{verdict};
-ghost use Rattle.peaklines.specs.RowLines.{placeOf, noFrames, rowLines, Ready, Printed};
+ghost use Rattle.peaklines.specs.RowLines.{placeOf, noFrames, rowLines, Printable, Printed};
 ghost use Rattle.peaklines.specs.TableText.{scans, peaksText, textOf, lineText, Counted, Sound};
 
 fn place_of(tof_row: u32) -> RowPlace
@@ -64,7 +64,7 @@ fn put_peak_lines(
     axis: &[u32],
     out: &mut [u8],
 ) -> usize
-    requires { ⌜ Ready (now y) (now axis) (length (now out)) × (n ≤ mostPeaks (length (now y))) × ((ks : List ℕ) × Standing (now y) (now y) (now found) n ks) ⌝ }
+    requires { ⌜ Printable (now y) (now axis) (length (now out)) × (n ≤ mostPeaks (length (now y))) × ((ks : List ℕ) × Standing (now y) (now y) (now found) n ks) ⌝ }
     ensures { λ r. ⌜ ((ks : List ℕ) → Standing (now (y .entry)) (now (y .entry)) (now (found .entry)) n ks → Printed «tof_row» (now (axis .entry)) (now (y .entry)) (now (out .entry)) (now (out .exit)) r ks) ⌝ }
 {
     let place = place_of(tof_row);
@@ -90,7 +90,7 @@ fn put_lines_in(
     found: &mut [u32],
     out: &mut [u8],
 ) -> usize
-    requires { ⌜ Ready (now y) (now axis) (length (now out)) × Searchable p (now y) (now y) (length (now turns)) (length (now bases)) (length (now found)) ⌝ }
+    requires { ⌜ Printable (now y) (now axis) (length (now out)) × Searchable p (now y) (now y) (length (now turns)) (length (now bases)) (length (now found)) ⌝ }
     ensures count { λ r. ⌜ r ≡ length (rowLines p «tof_row» (now (axis .entry)) (now (y .entry))) ⌝ }
     ensures front { λ r. ⌜ now (out .exit) ≡ rowLines p «tof_row» (now (axis .entry)) (now (y .entry)) ++ drop r (now (out .entry)) ⌝ }
 {
@@ -106,7 +106,7 @@ fn put_lines_in_64(
     axis: &[u32],
     out: &mut [u8],
 ) -> usize
-    requires { ⌜ Ready (now y) (now axis) (length (now out)) × (reaches (p .«min_prom») (highest 𝟎 (now y)) ≡ true) × (length (now y) ≤ 64) ⌝ }
+    requires { ⌜ Printable (now y) (now axis) (length (now out)) × (reaches (p .«min_prom») (highestReading 𝟎 (now y)) ≡ true) × (length (now y) ≤ 64) ⌝ }
     ensures count { λ r. ⌜ r ≡ length (rowLines p «tof_row» (now (axis .entry)) (now (y .entry))) ⌝ }
     ensures front { λ r. ⌜ now (out .exit) ≡ rowLines p «tof_row» (now (axis .entry)) (now (y .entry)) ++ drop r (now (out .entry)) ⌝ }
 {
@@ -124,7 +124,7 @@ fn put_lines_in_1024(
     axis: &[u32],
     out: &mut [u8],
 ) -> usize
-    requires { ⌜ Ready (now y) (now axis) (length (now out)) × (reaches (p .«min_prom») (highest 𝟎 (now y)) ≡ true) × (length (now y) ≤ 1024) ⌝ }
+    requires { ⌜ Printable (now y) (now axis) (length (now out)) × (reaches (p .«min_prom») (highestReading 𝟎 (now y)) ≡ true) × (length (now y) ≤ 1024) ⌝ }
     ensures count { λ r. ⌜ r ≡ length (rowLines p «tof_row» (now (axis .entry)) (now (y .entry))) ⌝ }
     ensures front { λ r. ⌜ now (out .exit) ≡ rowLines p «tof_row» (now (axis .entry)) (now (y .entry)) ++ drop r (now (out .entry)) ⌝ }
 {
@@ -142,7 +142,7 @@ fn put_lines_in_4096(
     axis: &[u32],
     out: &mut [u8],
 ) -> usize
-    requires { ⌜ Ready (now y) (now axis) (length (now out)) × (reaches (p .«min_prom») (highest 𝟎 (now y)) ≡ true) × (length (now y) ≤ maxFields) ⌝ }
+    requires { ⌜ Printable (now y) (now axis) (length (now out)) × (reaches (p .«min_prom») (highestReading 𝟎 (now y)) ≡ true) × (length (now y) ≤ maxFields) ⌝ }
     ensures count { λ r. ⌜ r ≡ length (rowLines p «tof_row» (now (axis .entry)) (now (y .entry))) ⌝ }
     ensures front { λ r. ⌜ now (out .exit) ≡ rowLines p «tof_row» (now (axis .entry)) (now (y .entry)) ++ drop r (now (out .entry)) ⌝ }
 {
@@ -161,7 +161,7 @@ pub fn put_row_lines(
     axis: &[u32],
     out: &mut [u8],
 ) -> usize
-    requires { ⌜ Ready (now y) (now axis) (length (now out)) ⌝ }
+    requires { ⌜ Printable (now y) (now axis) (length (now out)) ⌝ }
     ensures count { λ r. ⌜ r ≡ length (rowLines p «tof_row» (now (axis .entry)) (now (y .entry))) ⌝ }
     ensures front { λ r. ⌜ now (out .exit) ≡ rowLines p «tof_row» (now (axis .entry)) (now (y .entry)) ++ drop r (now (out .entry)) ⌝ }
 {

@@ -34,7 +34,7 @@ use Rattle.row.specs.RowNumber.{sameLengths, soundReadings, soundValues,
 use Rattle.row.proofs.RowNumberLaws.{none-for}
 use Rattle.row.proofs.RowWords.{row-words-length}
 use Rattle.row.specs.Written.{Written, asWords, stride, withRecord}
-use Rattle.row.specs.Steps.{Ready, Numbers, Inside, Listed}
+use Rattle.row.specs.Steps.{Writable, Numbers, Inside, RecordsPut}
 
 -- the default does not matter inside of a list
 default-out : {A : Type 0} (l : List A) (i : ℕ) (d e : A) → i < length l → getD l i d ≡ getD l i e
@@ -149,7 +149,7 @@ pub put-length : (w : Written) (ws : List ℕ) (n : ℕ) → length ws ≡ n * s
 put-length w ws n e = w .long ws ∙ rw e (mul-assoc n size (w .unit))
 
 module _ (place : RowPlace) (bounds : FrameBounds) (mobility : List Float) (axis : List ℕ) (y z : List Float) (first : ℕ) where
-  pub listed-none : (w : Written) (d : List ℕ) → Listed w place bounds mobility axis y z first d d 0 []
+  pub listed-none : (w : Written) (d : List ℕ) → RecordsPut w place bounds mobility axis y z first d d 0 []
   unfolding rowWords
   listed-none w d = record { count = refl; front = rw (put-none w, zero-mul (stride w)) }
 
@@ -158,8 +158,8 @@ module _ (place : RowPlace) (bounds : FrameBounds) (mobility : List Float) (axis
   none-words d = refl
 
   -- one more record behind them
-  pub one-listed : (w : Written) (es d out next : List ℕ) (n i : ℕ) (peak : ImPeak1D) → Listed w place bounds mobility axis y z first d out n es
-      → peak ≡ peakOf place bounds mobility axis y z i (first + n) → next ≡ withRecord w out n peak → Listed w place bounds mobility axis y z first d next (n + 1) (i ∷ es)
+  pub one-listed : (w : Written) (es d out next : List ℕ) (n i : ℕ) (peak : ImPeak1D) → RecordsPut w place bounds mobility axis y z first d out n es
+      → peak ≡ peakOf place bounds mobility axis y z i (first + n) → next ≡ withRecord w out n peak → RecordsPut w place bounds mobility axis y z first d next (n + 1) (i ∷ es)
   unfolding rowWords withRecord
   one-listed w es d out next n i peak h e o =
       let W = rowWords place bounds mobility axis y z first es in
@@ -179,8 +179,8 @@ module _ (place : RowPlace) (bounds : FrameBounds) (mobility : List Float) (axis
       }
 
   -- the next of the kept apexes
-  pub next-listed : (w : Written) (found ks d out last : List ℕ) (j : ℕ) (peak : ImPeak1D) (n : Next y z found ks j) → Listed w place bounds mobility axis y z first d out j (oldest j ks)
-      → peak ≡ peakOf place bounds mobility axis y z (n .apex) (first + j) → last ≡ withRecord w out j peak → Listed w place bounds mobility axis y z first d last (j + 1) (oldest (j + 1) ks)
+  pub next-listed : (w : Written) (found ks d out last : List ℕ) (j : ℕ) (peak : ImPeak1D) (n : Next y z found ks j) → RecordsPut w place bounds mobility axis y z first d out j (oldest j ks)
+      → peak ≡ peakOf place bounds mobility axis y z (n .apex) (first + j) → last ≡ withRecord w out j peak → RecordsPut w place bounds mobility axis y z first d last (j + 1) (oldest (j + 1) ks)
   next-listed w found ks d out last j peak n h e o = rw (n .is) (one-listed w (oldest j ks) d out last j (n .apex) peak h e o)
 
 -- a record put as words
@@ -191,7 +191,7 @@ put-words l k p = refl
 -- ---- a row that no number refuses
 
 -- a row that is ready can be searched
-pub searchable : {p : ImDetectParams} {y z : List Float} {axis : List ℕ} {first room : ℕ} (turns bases found : ℕ) → Ready y z axis first room → Numbers p y z
+pub searchable : {p : ImDetectParams} {y z : List Float} {axis : List ℕ} {first room : ℕ} (turns bases found : ℕ) → Writable y z axis first room → Numbers p y z
     → length y ≤ turns → turns ≤ 2 * bases + 1 → 4 * turns ≤ found + 4 → Searchable p y z turns bases found
 searchable turns bases found r n a b c =
     record {
@@ -203,7 +203,7 @@ searchable turns bases found r n a b c =
     }
 
 pub ready : (y z : List Float) (r : RowPlace) (f : FrameBounds) (mobility : List Float) (p : ImDetectParams) (axis : List ℕ) (first room : ℕ)
-    → rowNumber y z r f mobility p axis first room ≡ 0 → Ready y z axis first room
+    → rowNumber y z r f mobility p axis first room ≡ 0 → Writable y z axis first room
 unfolding sameLengths soundValues
 ready y z r f mobility p axis first room e =
     let n = length y in

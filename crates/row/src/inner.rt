@@ -20,7 +20,7 @@ ghost use Rattle.rowsearch.specs.Found.{Searchable, Standing};
 ghost use lib.Ieee.{Float};
 ghost use Rattle.row.specs.Row.{onAxes, subscan, scanAt, mobilityAt, groupFlag, groupWord, mobilityFlag, peakOf, rowWords};
 ghost use Rattle.row.specs.Written.{asWords};
-ghost use Rattle.row.specs.Steps.{Inside, Ready, Numbers, Listed};
+ghost use Rattle.row.specs.Steps.{Inside, Writable, Numbers, RecordsPut};
 
 fn scan_at(axis: &[u32], k: usize) -> u32
     requires { ⌜ 0 < length (now axis) ⌝ }
@@ -171,8 +171,8 @@ pub fn put_peaks(
     first: PeakId,
     out: &mut [u32],
 )
-    requires { ⌜ Ready (now y) (now z) (now axis) first (length (now out)) × (n ≤ mostPeaks (length (now y))) × ((ks : List ℕ) × Standing (now y) (now z) (now found) n ks) ⌝ }
-    ensures { λ _. ⌜ ((ks : List ℕ) → Standing (now (y .entry)) (now (z .entry)) (now (found .entry)) n ks → Listed asWords place bounds (now (mobility .entry)) (now (axis .entry)) (now (y .entry)) (now (z .entry)) first (now (out .entry)) (now (out .exit)) n ks) ⌝ }
+    requires { ⌜ Writable (now y) (now z) (now axis) first (length (now out)) × (n ≤ mostPeaks (length (now y))) × ((ks : List ℕ) × Standing (now y) (now z) (now found) n ks) ⌝ }
+    ensures { λ _. ⌜ ((ks : List ℕ) → Standing (now (y .entry)) (now (z .entry)) (now (found .entry)) n ks → RecordsPut asWords place bounds (now (mobility .entry)) (now (axis .entry)) (now (y .entry)) (now (z .entry)) first (now (out .entry)) (now (out .exit)) n ks) ⌝ }
 {
     for j in 0..n {
         let a = rowsearch::inner::measured_at(found, j);
@@ -197,7 +197,7 @@ pub fn list_peaks(
     found: &mut [u32],
     out: &mut [u32],
 ) -> usize
-    requires { ⌜ Ready (now y) (now z) (now axis) first (length (now out)) × Searchable p (now y) (now z) (length (now turns)) (length (now bases)) (length (now found)) ⌝ }
+    requires { ⌜ Writable (now y) (now z) (now axis) first (length (now out)) × Searchable p (now y) (now z) (length (now turns)) (length (now bases)) (length (now found)) ⌝ }
     ensures count { λ r. ⌜ r ≡ length (kept p (now (y .entry)) (now (z .entry))) ⌝ }
     ensures front { λ r. ⌜ now (out .exit) ≡ rowWords place bounds (now (mobility .entry)) (now (axis .entry)) (now (y .entry)) (now (z .entry)) first (kept p (now (y .entry)) (now (z .entry))) ++ drop (r * size) (now (out .entry)) ⌝ }
 {
@@ -218,7 +218,7 @@ fn list_in_1024(
     first: PeakId,
     out: &mut [u32],
 ) -> usize
-    requires { ⌜ Ready (now y) (now z) (now axis) first (length (now out)) × Numbers p (now y) (now z) × (length (now y) ≤ 1024) ⌝ }
+    requires { ⌜ Writable (now y) (now z) (now axis) first (length (now out)) × Numbers p (now y) (now z) × (length (now y) ≤ 1024) ⌝ }
     ensures count { λ r. ⌜ r ≡ length (kept p (now (y .entry)) (now (z .entry))) ⌝ }
     ensures front { λ r. ⌜ now (out .exit) ≡ rowWords place bounds (now (mobility .entry)) (now (axis .entry)) (now (y .entry)) (now (z .entry)) first (kept p (now (y .entry)) (now (z .entry))) ++ drop (r * size) (now (out .entry)) ⌝ }
 {
@@ -253,7 +253,7 @@ fn list_in_16384(
     first: PeakId,
     out: &mut [u32],
 ) -> usize
-    requires { ⌜ Ready (now y) (now z) (now axis) first (length (now out)) × Numbers p (now y) (now z) × (length (now y) ≤ maxSamples) ⌝ }
+    requires { ⌜ Writable (now y) (now z) (now axis) first (length (now out)) × Numbers p (now y) (now z) × (length (now y) ≤ maxSamples) ⌝ }
     ensures count { λ r. ⌜ r ≡ length (kept p (now (y .entry)) (now (z .entry))) ⌝ }
     ensures front { λ r. ⌜ now (out .exit) ≡ rowWords place bounds (now (mobility .entry)) (now (axis .entry)) (now (y .entry)) (now (z .entry)) first (kept p (now (y .entry)) (now (z .entry))) ++ drop (r * size) (now (out .entry)) ⌝ }
 {
@@ -288,7 +288,7 @@ pub fn find_im_peaks_row(
     first: PeakId,
     out: &mut [u32],
 ) -> usize
-    requires { ⌜ Ready (now y) (now z) (now axis) first (length (now out)) × (allInRange anyNumber (now y) ≡ true) × (length (now y) ≤ maxSamples) ⌝ }
+    requires { ⌜ Writable (now y) (now z) (now axis) first (length (now out)) × (allInRange anyNumber (now y) ≡ true) × (length (now y) ≤ maxSamples) ⌝ }
     ensures count { λ r. ⌜ r ≡ length (kept p (now (y .entry)) (now (z .entry))) ⌝ }
     ensures front { λ r. ⌜ now (out .exit) ≡ rowWords place bounds (now (mobility .entry)) (now (axis .entry)) (now (y .entry)) (now (z .entry)) first (kept p (now (y .entry)) (now (z .entry))) ++ drop (r * size) (now (out .entry)) ⌝ }
 {

@@ -15,7 +15,7 @@ use lib.Ieee.{Float, binary32, lt, ne, round}
 use Rattle.numeric.specs.Arith.{_⊕_, _⊖_, _⊘_, 𝟎, 𝟏, indexF, at}
 use Rattle.numeric.proofs.Laws.{clash}
 use Rattle.numeric.proofs.Bounds.{one, mag, Num, Rep, AtMost, one-pos, rep, rep-at, rep-whole, lt-mag, round-order, round-at-least, sub-is, add-at-most, add-at-least, sub-at-most, div-at-most, mag-zero, mag-one, num-zero, num-one}
-use Rattle.apex.specs.Apex.{share, leftFoot, rightFoot, leftCrossing, rightCrossing}
+use Rattle.apex.specs.Apex.{partWay, leftFoot, rightFoot, leftCrossing, rightCrossing}
 use Rattle.apex.proofs.Laws.{left-on, left-stop, right-on, right-stop, left-above, right-above}
 use Rattle.rowlaws.proofs.Signs.{sub-turned, div-turned}
 use Rattle.rowlaws.proofs.Whole.{num-index, mag-index}
@@ -65,18 +65,18 @@ ratio p q r s P Q R S a b c =
 
 -- the share of the way to a height that lies between two readings
 module _ (h a b : Float) (H : Num h) (A : Num a) (B : Num b) where
-  share-by : AtMost ((h ⊖ a) ⊘ (b ⊖ a)) one → AtMost (share h a b) one
-  unfolding share
+  share-by : AtMost ((h ⊖ a) ⊘ (b ⊖ a)) one → AtMost (partWay h a b) one
+  unfolding partWay
   share-by q = go (ne b a)
     where
       go : (t : Bool) → AtMost (cond t ((h ⊖ a) ⊘ (b ⊖ a)) 𝟎) one
       go true = q
       go false = (num-zero, rw mag-zero zero-le)
 
-  share-up : mag a ≤ mag h → mag h < mag b → AtMost (share h a b) one
+  share-up : mag a ≤ mag h → mag h < mag b → AtMost (partWay h a b) one
   share-up l u = share-by (ratio h a b a H A B A l (omega arith) (omega arith))
 
-  share-down : mag b ≤ mag h → mag h < mag a → AtMost (share h a b) one
+  share-down : mag b ≤ mag h → mag h < mag a → AtMost (partWay h a b) one
   share-down l u =
       share-by
       (subst (λ (x : Float). AtMost x one) (sym (ap₂ _⊘_ (sub-turned h a H A u) (sub-turned b a B A (omega arith)) ∙ div-turned (a ⊖ h) (a ⊖ b)))
@@ -122,7 +122,7 @@ module _ (y : List Float) (nums : (k : ℕ) → k < length y → Num (at y k)) (
   unfolding leftCrossing
   left-place k l e = go (ltb (leftFoot y h i) i) refl
     where
-      go : (t : Bool) → ltb (leftFoot y h i) i ≡ t → Place (cond t (indexF (leftFoot y h i) ⊕ share h (at y (leftFoot y h i)) (at y (leftFoot y h i + 1))) (indexF (leftFoot y h i))) 0 i
+      go : (t : Bool) → ltb (leftFoot y h i) i ≡ t → Place (cond t (indexF (leftFoot y h i) ⊕ partWay h (at y (leftFoot y h i)) (at y (leftFoot y h i + 1))) (indexF (leftFoot y h i))) 0 i
       go true t =
           let v : leftFoot y h i < i = ltb-true (leftFoot y h i) i t in
           place-in 0 (leftFoot y h i) i _ (omega arith) v (omega arith)
@@ -135,7 +135,7 @@ module _ (y : List Float) (nums : (k : ℕ) → k < length y → Num (at y k)) (
   unfolding rightCrossing
   right-place k l n e = go (ltb i (rightFoot y h i)) refl
     where
-      go : (t : Bool) → ltb i (rightFoot y h i) ≡ t → Place (cond t (indexF (rightFoot y h i - 1) ⊕ share h (at y (rightFoot y h i - 1)) (at y (rightFoot y h i))) (indexF (rightFoot y h i))) i (length y - 1)
+      go : (t : Bool) → ltb i (rightFoot y h i) ≡ t → Place (cond t (indexF (rightFoot y h i - 1) ⊕ partWay h (at y (rightFoot y h i - 1)) (at y (rightFoot y h i))) (indexF (rightFoot y h i))) i (length y - 1)
       go true t =
           let v : i < rightFoot y h i = ltb-true i (rightFoot y h i) t in
           let u : rightFoot y h i ≤ length y - 1 = omega arith in

@@ -8,7 +8,7 @@ use Rattle.numeric.specs.Arith.{indexF}
 use Rattle.numeric.specs.Numeric.{maxF, minF, absF, clampF, lerpF, quadF, inRange, allInRange}
 use Rattle.refusal.specs.Refusal.{firstOf}
 use Rattle.rounding.specs.Rounding.{floorF, ceilF, roundF}
-use Rattle.apex.specs.Apex.{isCandidate, candidatesTo, leftOf, upToHigher, least, baseline, prominence, halfHeight, runAbove, share, leftCrossing, rightCrossing}
+use Rattle.apex.specs.Apex.{isCandidate, candidatesTo, leftOf, upToHigher, least, baseline, prominence, halfHeight, runAbove, partWay, leftCrossing, rightCrossing}
 use Rattle.area.specs.Area.{heightAt, strip, within, head, whole, tail, across, between, areaF}
 use Rattle.spans.specs.Span.{widthOf}
 use Rattle.record.specs.Record.{size, sound, soundTof, soundFrames, soundOptions, soundScans, soundShape}
@@ -19,7 +19,7 @@ use Rattle.params.specs.declared.RowPlace.{RowPlace}
 use Rattle.params.specs.declared.FrameBounds.{FrameBounds}
 use Rattle.params.specs.declared.WindowGroup.the-variants.{Missing}
 use Rattle.rowsearch.specs.Suppression.{keep, keepAll}
-use Rattle.rowsearch.specs.Qualifying.{highest, leftX, rightX, width, qualifies, thatQualify, qualifying, kept}
+use Rattle.rowsearch.specs.Qualifying.{highestReading, leftX, rightX, width, qualifies, thatQualify, qualifying, kept}
 use Rattle.row.specs.Row.{subscan, peakOf}
 use Rattle.row.specs.RowNumber.{sameLengths, soundReadings, soundValues, soundAxis, rowNumber}
 
@@ -45,12 +45,12 @@ unfolding rowNumber firstOf sameLengths soundReadings soundValues soundAxis soun
 accepted = refl
 
 one-peak : kept asks row row ≡ 1 ∷ []
-unfolding kept qualifying highest thatQualify qualifies keepAll keep candidatesTo isCandidate leftX rightX width widthOf leftOf upToHigher least baseline prominence halfHeight runAbove share leftCrossing rightCrossing maxF roundF add sub mul div lt le ne isNan ofInt ofBits toUnsigned
+unfolding kept qualifying highestReading thatQualify qualifies keepAll keep candidatesTo isCandidate leftX rightX width widthOf leftOf upToHigher least baseline prominence halfHeight runAbove partWay leftCrossing rightCrossing maxF roundF add sub mul div lt le ne isNan ofInt ofBits toUnsigned
 one-peak = refl
 
 -- its record is sound
 passes : sound (peakOf (from 100 102) frames [] axis row row 1 0) ≡ true
-unfolding sound soundTof soundFrames soundOptions soundScans soundShape peakOf subscan quadF absF clampF minF areaF between within across head whole tail strip heightAt lerpF inRange leftX rightX width widthOf leftOf upToHigher least baseline prominence halfHeight runAbove share leftCrossing rightCrossing maxF roundF floorF ceilF add sub mul div lt le ne isNan ofInt ofBits toBits toUnsigned
+unfolding sound soundTof soundFrames soundOptions soundScans soundShape peakOf subscan quadF absF clampF minF areaF between within across head whole tail strip heightAt lerpF inRange leftX rightX width widthOf leftOf upToHigher least baseline prominence halfHeight runAbove partWay leftCrossing rightCrossing maxF roundF floorF ceilF add sub mul div lt le ne isNan ofInt ofBits toBits toUnsigned
 passes = refl
 
 -- Reversed TOF bounds are accepted, and pass into the record, which number 9 then refuses.

@@ -26,7 +26,7 @@ use Rattle.spans.specs.declared.inner.Span.{Span}
 use Rattle.rowsearch.specs.Suppression.{keep, keepAll}
 use Rattle.rowsearch.proofs.Account.{keep-length, keepAll-append}
 use Rattle.rowsearch.proofs.QualifyingLaws.{qualify-append, keep-one, kept-high}
-use Rattle.rowsearch.specs.Qualifying.{highest, reaches, leftX, rightX, width, qualifies, thatQualify, kept}
+use Rattle.rowsearch.specs.Qualifying.{highestReading, reaches, leftX, rightX, width, qualifies, thatQualify, kept}
 use Rattle.rowsearch.specs.Found.{measuredOf, foundSize, measuredWords, measuredFrom, measuredAt, withMeasured, Fits, FoundAt, Found, oldest, keepIf, Newest, Keeps, keptOf, after}
 use Rattle.rowsearch.specs.declared.inner.Measured.{Measured}
 use Rattle.rowsearch.specs.declared.inner.Keeping.{Keeping}
@@ -66,14 +66,14 @@ no-higher floor m v s h = go (lt m floor) (le floor v) refl refl
     go false b e g = refl
 
 -- the highest reaches the floor if one of them does
-pub highest-reaches : (floor m : Float) (vs : List Float) → isNan m ≡ false → not (lt (highest m vs) floor) ≡ (not (lt m floor) || some floor vs)
-unfolding highest some
+pub highest-reaches : (floor m : Float) (vs : List Float) → isNan m ≡ false → not (lt (highestReading m vs) floor) ≡ (not (lt m floor) || some floor vs)
+unfolding highestReading some
 highest-reaches floor m [] n = sym (or-false _)
 highest-reaches floor m (v ∷ vs) n = go (lt m v) refl (highest-reaches floor v vs) (highest-reaches floor m vs n)
   where
-    go : (b : Bool) → lt m v ≡ b → (isNan v ≡ false → not (lt (highest v vs) floor) ≡ (not (lt v floor) || some floor vs))
-        → not (lt (highest m vs) floor) ≡ (not (lt m floor) || some floor vs)
-        → not (lt (highest (cond b v m) vs) floor) ≡ (not (lt m floor) || (le floor v || some floor vs))
+    go : (b : Bool) → lt m v ≡ b → (isNan v ≡ false → not (lt (highestReading v vs) floor) ≡ (not (lt v floor) || some floor vs))
+        → not (lt (highestReading m vs) floor) ≡ (not (lt m floor) || some floor vs)
+        → not (lt (highestReading (cond b v m) vs) floor) ≡ (not (lt m floor) || (le floor v || some floor vs))
     go true e f g = f (lt-no-nan m v e .1) ∙ higher floor m v (some floor vs) e
     go false e f g = g ∙ no-higher floor m v (some floor vs) e
 
@@ -322,7 +322,7 @@ kept-of-all p y turns (suc m) =
     ∙ ap (keepAll d y []) (sym (qualify-append p y (apexesOf turns m) (i ∷ [])))
 
 pub kept-of-row : (p : ImDetectParams) (y z : List Float) (turns bases : List ℕ) (m : ℕ) → Searched y turns bases m
-    → reaches (p .«min_prom») (highest 𝟎 z) ≡ true → keptOf p y turns m ≡ kept p y z
+    → reaches (p .«min_prom») (highestReading 𝟎 z) ≡ true → keptOf p y turns m ≡ kept p y z
 kept-of-row p y z turns bases m s h =
     kept-of-all p y turns m ∙ ap (λ (l : List ℕ). keepAll (p .«min_distance_scans») y [] (thatQualify p y l)) (sym (s .are)) ∙ sym (kept-high p y z h)
 

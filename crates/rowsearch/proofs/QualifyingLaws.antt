@@ -15,31 +15,31 @@ use Rattle.numeric.specs.Arith.{at, 𝟎}
 use Rattle.numeric.proofs.Laws.{clash}
 use Rattle.numeric.proofs.Order.{lt-no-nan}
 use Rattle.apex.specs.Apex.{isCandidate, candidatesTo, candidates}
-use Rattle.apex.specs.Candidates.{Listed}
+use Rattle.apex.specs.Candidates.{CandidateAt}
 use Rattle.apex.proofs.Candidates.{one-more, none-more, count-to}
 use Rattle.params.specs.Params.{mostPeaks}
 use Rattle.params.specs.declared.ImDetectParams.{ImDetectParams}
 use Rattle.rowsearch.specs.Suppression.{keep, keepAll}
 use Rattle.rowsearch.specs.Account.{_∈_, All, Ascending}
 use Rattle.rowsearch.proofs.Account.{ascending-append, keepAll-append, kept-length}
-use Rattle.rowsearch.specs.Qualifying.{highest, reaches, qualifies, thatQualify, qualifying, kept}
+use Rattle.rowsearch.specs.Qualifying.{highestReading, reaches, qualifies, thatQualify, qualifying, kept}
 use Rattle.rowsearch.specs.QualifyingLaws.{OnlyQualifying, AllQualifying, QualifyingAscend, QualifyingNumbers, KeptCount}
 
 -- ---- the qualifying apexes
 
 -- the candidates among 1 .. k are candidates from 1 to k, and ascend
-candidates-listed : (y : List Float) (k : ℕ) → All (Listed y k) (candidatesTo y k)
+candidates-listed : (y : List Float) (k : ℕ) → All (CandidateAt y k) (candidatesTo y k)
 unfolding candidatesTo
 candidates-listed y zero i m = absurd (List·Memᴰ·not-nil m)
 candidates-listed y (suc k) i m = go (isCandidate y (suc k)) refl (candidates-listed y k i) m
   where
-    before : Listed y k i → Listed y (suc k) i
+    before : CandidateAt y k i → CandidateAt y (suc k) i
     before r = record { low = r .low; high = omega arith; is = r .is }
 
-    last : isCandidate y (suc k) ≡ true → i ≡ suc k → Listed y (suc k) i
+    last : isCandidate y (suc k) ≡ true → i ≡ suc k → CandidateAt y (suc k) i
     last e q = record { low = omega arith; high = omega arith; is = rw q e }
 
-    go : (b : Bool) → isCandidate y (suc k) ≡ b → (i ∈ candidatesTo y k → Listed y k i) → i ∈ (candidatesTo y k ++ cond b (suc k ∷ []) []) → Listed y (suc k) i
+    go : (b : Bool) → isCandidate y (suc k) ≡ b → (i ∈ candidatesTo y k → CandidateAt y k i) → i ∈ (candidatesTo y k ++ cond b (suc k ∷ []) []) → CandidateAt y (suc k) i
     go true e f n = ⊎-elim (λ o. before (f o)) (λ o. last e (List·Memᴰ·eq-of-singleton o)) (List·Memᴰ·append-cases (candidatesTo y k) n)
     go false e f n = ⊎-elim (λ o. before (f o)) (λ o. absurd (List·Memᴰ·not-nil o)) (List·Memᴰ·append-cases (candidatesTo y k) n)
 
@@ -54,12 +54,12 @@ candidates-ascend y (suc k) = go (isCandidate y (suc k)) (candidates-ascend y k)
         (λ i m j n. let r = candidates-listed y k i m in let e : j ≡ suc k = List·Memᴰ·eq-of-singleton n in omega arith)
     go false a = ascending-append (candidatesTo y k) [] a tt (λ i m j n. absurd (List·Memᴰ·not-nil n))
 
-candidates-complete : (y : List Float) (k i : ℕ) → Listed y k i → i ∈ candidatesTo y k
+candidates-complete : (y : List Float) (k i : ℕ) → CandidateAt y k i → i ∈ candidatesTo y k
 unfolding candidatesTo
 candidates-complete y zero i r = absurd (omega arith)
 candidates-complete y (suc k) i r = go (ltb i (suc k)) refl (candidates-complete y k i)
   where
-    go : (b : Bool) → ltb i (suc k) ≡ b → (Listed y k i → i ∈ candidatesTo y k) → i ∈ (candidatesTo y k ++ cond (isCandidate y (suc k)) (suc k ∷ []) [])
+    go : (b : Bool) → ltb i (suc k) ≡ b → (CandidateAt y k i → i ∈ candidatesTo y k) → i ∈ (candidatesTo y k ++ cond (isCandidate y (suc k)) (suc k ∷ []) [])
     go true e f =
         Memᴰ·append-left (cond (isCandidate y (suc k)) (suc k ∷ []) []) (f (record { low = r .low; high = omega (arith, ltb-true i (suc k) e); is = r .is }))
     go false e f =
@@ -110,7 +110,7 @@ qualify-all p y (j ∷ is) i m h = go (qualifies p y j) refl (λ n. qualify-all 
 -- the qualifying apexes ascend, strictly
 pub qualifying-ascend : QualifyingAscend
 unfolding qualifying
-qualifying-ascend p y z = go (reaches (p .«min_prom») (highest 𝟎 z))
+qualifying-ascend p y z = go (reaches (p .«min_prom») (highestReading 𝟎 z))
   where
     go : (b : Bool) → Ascending (cond b (thatQualify p y (candidates y)) [])
     go true = qualify-ascend p y (candidates y) (candidates-ascend y (length y - 2))
@@ -119,9 +119,9 @@ qualifying-ascend p y z = go (reaches (p .«min_prom») (highest 𝟎 z))
 -- each is a candidate of the row that qualifies, between its first sample and its last
 pub qualifying-listed : OnlyQualifying
 unfolding qualifying
-qualifying-listed p y z i m = go (reaches (p .«min_prom») (highest 𝟎 z)) m
+qualifying-listed p y z i m = go (reaches (p .«min_prom») (highestReading 𝟎 z)) m
   where
-    go : (b : Bool) → i ∈ cond b (thatQualify p y (candidates y)) [] → Listed y (length y - 2) i × (qualifies p y i ≡ true)
+    go : (b : Bool) → i ∈ cond b (thatQualify p y (candidates y)) [] → CandidateAt y (length y - 2) i × (qualifies p y i ≡ true)
     go true n = let r = qualify-some p y (candidates y) i n in (candidates-listed y (length y - 2) i (r .0), r .1)
     go false n = absurd (List·Memᴰ·not-nil n)
 
@@ -175,11 +175,11 @@ kept-step p y k = go (isCandidate y (suc k)) refl
     go false e = ap (λ (l : List ℕ). keepAll d y [] (thatQualify p y l)) (none-more y k e)
 
 -- the row as a whole, whether or not its raw maximum reaches the floor
-pub kept-high : (p : ImDetectParams) (y z : List Float) → reaches (p .«min_prom») (highest 𝟎 z) ≡ true → kept p y z ≡ keptTo p y (length y - 2)
+pub kept-high : (p : ImDetectParams) (y z : List Float) → reaches (p .«min_prom») (highestReading 𝟎 z) ≡ true → kept p y z ≡ keptTo p y (length y - 2)
 unfolding kept qualifying
 kept-high p y z h = rw h
 
-pub kept-low : (p : ImDetectParams) (y z : List Float) → reaches (p .«min_prom») (highest 𝟎 z) ≡ false → kept p y z ≡ []
+pub kept-low : (p : ImDetectParams) (y z : List Float) → reaches (p .«min_prom») (highestReading 𝟎 z) ≡ false → kept p y z ≡ []
 unfolding kept qualifying keepAll
 kept-low p y z h = rw h
 
@@ -203,8 +203,8 @@ kept-to-count p y k =
     )
 
 pub kept-count : KeptCount
-kept-count p y z = go (reaches (p .«min_prom») (highest 𝟎 z)) refl
+kept-count p y z = go (reaches (p .«min_prom») (highestReading 𝟎 z)) refl
   where
-    go : (b : Bool) → reaches (p .«min_prom») (highest 𝟎 z) ≡ b → length (kept p y z) ≤ mostPeaks (length y)
+    go : (b : Bool) → reaches (p .«min_prom») (highestReading 𝟎 z) ≡ b → length (kept p y z) ≤ mostPeaks (length y)
     go true e = rw (kept-high p y z e) (omega (arith, kept-to-count p y (length y - 2)))
     go false e = rw (kept-low p y z e) (omega arith)

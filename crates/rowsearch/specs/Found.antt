@@ -14,7 +14,7 @@ use Rattle.turns.specs.Turns.{turn}
 use Rattle.spans.specs.Span.{spanOf}
 use Rattle.params.specs.declared.ImDetectParams.{ImDetectParams}
 use Rattle.rowsearch.specs.Suppression.{keep}
-use Rattle.rowsearch.specs.Qualifying.{highest, reaches, qualifies, kept}
+use Rattle.rowsearch.specs.Qualifying.{highestReading, reaches, qualifies, kept}
 use Rattle.rowsearch.specs.declared.inner.Measured.{Measured}
 use Rattle.rowsearch.specs.declared.inner.Keeping.{Keeping}
 
@@ -139,7 +139,7 @@ pub record Searchable (p : ImDetectParams) (y z : List Float) (turns bases found
   pub raw : length z ≡ length y
   pub short : length y ≤ exactIndex
   pub room : Room (length y) turns bases found
-  pub floor : reaches (p .«min_prom») (highest 𝟎 z) ≡ true
+  pub floor : reaches (p .«min_prom») (highestReading 𝟎 z) ≡ true
 
 -- the n apexes ks, the newest first, stand in the list
 pub record Standing (y z : List Float) (found : List ℕ) (n : ℕ) (ks : List ℕ) : Type 0 where

@@ -13,9 +13,9 @@ use Rattle.rowsearch.specs.Suppression.{keepAll}
 -- ---- qualifying apexes
 
 -- the highest of a reading and further ones
-unfoldable pub highest : Float → List Float → Float
-highest m [] = m
-highest m (v ∷ vs) = highest (cond (lt m v) v m) vs
+unfoldable pub highestReading : Float → List Float → Float
+highestReading m [] = m
+highestReading m (v ∷ vs) = highestReading (cond (lt m v) v m) vs
 
 -- a value that is not below the floor
 abbrev pub reaches : Float → Float → Bool
@@ -41,7 +41,7 @@ thatQualify p y [] = []
 thatQualify p y (i ∷ is) = cond (qualifies p y i) (i ∷ thatQualify p y is) (thatQualify p y is)
 
 unfoldable pub qualifying : ImDetectParams → List Float → List Float → List ℕ
-qualifying p y z = cond (reaches (p .«min_prom») (highest 𝟎 z)) (thatQualify p y (candidates y)) []
+qualifying p y z = cond (reaches (p .«min_prom») (highestReading 𝟎 z)) (thatQualify p y (candidates y)) []
 
 -- ---- kept apexes
 

@@ -6,21 +6,21 @@ use Prim.Native.Nat.{ℕ, _-_, _≤_}
 use lib.ListN.{length}
 use lib.Ieee.{Float}
 use Rattle.numeric.specs.Arith.{𝟎}
-use Rattle.apex.specs.Candidates.{Listed}
+use Rattle.apex.specs.Candidates.{CandidateAt}
 use Rattle.params.specs.Params.{mostPeaks}
 use Rattle.params.specs.declared.ImDetectParams.{ImDetectParams}
 use Rattle.rowsearch.specs.Account.{_∈_, All, Ascending, NoNan}
-use Rattle.rowsearch.specs.Qualifying.{highest, reaches, qualifies, qualifying, kept}
+use Rattle.rowsearch.specs.Qualifying.{highestReading, reaches, qualifies, qualifying, kept}
 
 -- each is a candidate of the row that qualifies, between its first sample and its last: `qualifying-listed` in proofs/QualifyingLaws.antt
 abbrev pub OnlyQualifying : Type 0
-OnlyQualifying = (p : ImDetectParams) (y z : List Float) → All (λ i. Listed y (length y - 2) i × (qualifies p y i ≡ true)) (qualifying p y z)
+OnlyQualifying = (p : ImDetectParams) (y z : List Float) → All (λ i. CandidateAt y (length y - 2) i × (qualifies p y i ≡ true)) (qualifying p y z)
 
 -- in a row that reaches the floor every such candidate is one of them: `qualifying-complete`
 abbrev pub AllQualifying : Type 0
 AllQualifying =
-    (p : ImDetectParams) (y z : List Float) (i : ℕ) → reaches (p .«min_prom») (highest 𝟎 z) ≡ true
-    → Listed y (length y - 2) i → qualifies p y i ≡ true → i ∈ qualifying p y z
+    (p : ImDetectParams) (y z : List Float) (i : ℕ) → reaches (p .«min_prom») (highestReading 𝟎 z) ≡ true
+    → CandidateAt y (length y - 2) i → qualifies p y i ≡ true → i ∈ qualifying p y z
 
 -- they ascend, strictly: `qualifying-ascend`
 abbrev pub QualifyingAscend : Type 0

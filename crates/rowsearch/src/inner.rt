@@ -11,7 +11,7 @@ ghost use Rattle.limits.specs.Limits.{exactIndex};
 ghost use Rattle.numeric.specs.Arith.{𝟎};
 ghost use Rattle.spans.specs.Memo.{Memo};
 ghost use Rattle.sweep.specs.Searched.{Searched};
-ghost use Rattle.rowsearch.specs.Qualifying.{highest, reaches};
+ghost use Rattle.rowsearch.specs.Qualifying.{highestReading, reaches};
 ghost use Rattle.rowsearch.specs.Found.{foundSize, word, measuredWords, measuredAt, withMeasured, Fits, Found, keepIf, Keeps, Spot, keptOf, Searchable, Done};
 
 // What is measured of an apex.
@@ -35,7 +35,7 @@ pub struct Keeping {
 
 // Whether the highest reading of a row, or 0, reaches the floor.
 pub fn reaches_floor(z: &[f32], floor: f32) -> bool
-    ensures { λ r. ⌜ r ≡ reaches floor (highest 𝟎 (now (z .entry))) ⌝ }
+    ensures { λ r. ⌜ r ≡ reaches floor (highestReading 𝟎 (now (z .entry))) ⌝ }
 {
     let mut any = !(0.0 < floor);
     for i in 0..z.len() {

@@ -18,7 +18,7 @@ use Rattle.params.specs.declared.ImDetectParams.{ImDetectParams}
 use Rattle.smoothing.specs.Smoothing.{tabulate, smoothedAt, smoothed, normalised, soundWeights}
 use Rattle.smoothing.proofs.Laws.{smoothed-length}
 use Rattle.smoothing.proofs.InRange.{smoothed-in-range, smoothed-fits}
-use Rattle.rowsearch.specs.Qualifying.{highest, reaches, kept}
+use Rattle.rowsearch.specs.Qualifying.{highestReading, reaches, kept}
 use Rattle.rowsearch.specs.Found.{Room, Searchable}
 use Rattle.rowsearch.specs.Found as rows
 use Rattle.smoothrow.specs.SmoothRow.{searched, soundOrNone, Handed, Done}
@@ -68,7 +68,7 @@ smoothed-front weights u z d scratch e s =
     )
 
 -- ---- it can be searched
-module _ (p : ImDetectParams) (z weights u : List Float) (scratch turns bases found : ℕ) (h : Handed z weights u scratch turns bases found) (f : reaches (p .«min_prom») (highest 𝟎 z) ≡ true) where
+module _ (p : ImDetectParams) (z weights u : List Float) (scratch turns bases found : ℕ) (h : Handed z weights u scratch turns bases found) (f : reaches (p .«min_prom») (highestReading 𝟎 z) ≡ true) where
   pub raw-searchable : Searchable p z z turns bases found
   raw-searchable =
       record { numbers = all-wider 0x4f80_0000 0x7f80_0000 z (omega arith) (h .readings); raw = refl; short = h .short; room = h .room; floor = f }

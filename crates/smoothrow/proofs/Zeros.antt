@@ -20,7 +20,7 @@ use Rattle.smoothing.proofs.Laws.{at-tab, smoothed-length}
 use Rattle.apex.specs.Apex.{isCandidate, candidatesTo, candidates}
 use Rattle.apex.proofs.Candidates.{none-more}
 use Rattle.params.specs.declared.ImDetectParams.{ImDetectParams}
-use Rattle.rowsearch.specs.Qualifying.{highest, reaches, thatQualify, qualifying, kept}
+use Rattle.rowsearch.specs.Qualifying.{highestReading, reaches, thatQualify, qualifying, kept}
 use Rattle.rowsearch.specs.Suppression.{keepAll}
 use Rattle.smoothrow.specs.SmoothRow.{searched, allZero}
 
@@ -176,7 +176,7 @@ no-candidate y (suc k) h = none-more y k (rw (lt-idle (at y (suc k - 1)) (at y (
 
 none-kept : (p : ImDetectParams) (y z : List Float) → candidates y ≡ [] → kept p y z ≡ []
 unfolding kept qualifying keepAll thatQualify
-none-kept p y z h = rw h (go (reaches (p .«min_prom») (highest 𝟎 z)))
+none-kept p y z h = rw h (go (reaches (p .«min_prom») (highestReading 𝟎 z)))
   where
     go : (b : Bool) → keepAll (p .«min_distance_scans») y [] (cond b [] []) ≡ []
     go true = refl

@@ -47,9 +47,9 @@ leading-zero-reading : map word (readings (ascii "01")) ≡ 0x3f80_0000 ∷ []
 unfolding readings fields valueFrom ofInt toBits
 leading-zero-reading = refl
 
-highest : rowText (ascii "16777215") ≡ RowText.Row 1
+highest-row : rowText (ascii "16777215") ≡ RowText.Row 1
 unfolding isRow fields allNumbers isNumber allDigits valueFrom
-highest = refl
+highest-row = refl
 
 highest-reading : map word (readings (ascii "16777215")) ≡ 0x4b7f_ffff ∷ []
 unfolding readings fields valueFrom ofInt toBits

@@ -20,7 +20,7 @@ use Rattle.numeric.specs.Numeric.{castF, inRange}
 use Rattle.refusal.proofs.Bools.{clash, neither}
 use Rattle.numeric.proofs.Laws.{and-true}
 use Rattle.tof.specs.declared.TofScale.{TofScale}
-use Rattle.tof.specs.Tof.{Sound, edge, lowest, highest}
+use Rattle.tof.specs.Tof.{Sound, edge, lowestTof, highestTof}
 use Rattle.tof.proofs.TofLaws.{edges-held, plain}
 
 -- ---- edges
@@ -69,23 +69,23 @@ unfolding ofInt
 below-last n x u a b h = below-whole (round binary32 false n 1) x n (round-whole binary32 false n u) u a b h
 
 -- ---- the lowest and the highest value
-pub low-le : (ts : List ℕ) → lowest ts ≤ 4294967295
-unfolding lowest
+pub low-le : (ts : List ℕ) → lowestTof ts ≤ 4294967295
+unfolding lowestTof
 low-le [] = omega arith
 low-le (t ∷ ts) = let r = low-le ts in omega arith
 
-pub low-step : (ts : List ℕ) (i : ℕ) → i < length ts → lowest (drop i ts) ≡ min (getD ts i 0) (lowest (drop (i + 1) ts))
-unfolding lowest
+pub low-step : (ts : List ℕ) (i : ℕ) → i < length ts → lowestTof (drop i ts) ≡ min (getD ts i 0) (lowestTof (drop (i + 1) ts))
+unfolding lowestTof
 low-step ts i h = rw (add-one, drop-cons ts i 0)
 
-pub high-step : (ts : List ℕ) (i : ℕ) → i < length ts → highest (drop i ts) ≡ max (getD ts i 0) (highest (drop (i + 1) ts))
-unfolding highest
+pub high-step : (ts : List ℕ) (i : ℕ) → i < length ts → highestTof (drop i ts) ≡ max (getD ts i 0) (highestTof (drop (i + 1) ts))
+unfolding highestTof
 high-step ts i h = rw (add-one, drop-cons ts i 0)
 
-pub low-end : (ts : List ℕ) (i : ℕ) → length ts ≤ i → lowest (drop i ts) ≡ 4294967295
-unfolding lowest
+pub low-end : (ts : List ℕ) (i : ℕ) → length ts ≤ i → lowestTof (drop i ts) ≡ 4294967295
+unfolding lowestTof
 low-end ts i h = rw (drop-of-length-le ts h)
 
-pub high-end : (ts : List ℕ) (i : ℕ) → length ts ≤ i → highest (drop i ts) ≡ 0
-unfolding highest
+pub high-end : (ts : List ℕ) (i : ℕ) → length ts ≤ i → highestTof (drop i ts) ≡ 0
+unfolding highestTof
 high-end ts i h = rw (drop-of-length-le ts h)

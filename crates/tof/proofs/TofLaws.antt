@@ -18,7 +18,7 @@ use Rattle.limits.specs.Limits.{maxStep, maxTof, maxTofBound}
 use Rattle.params.specs.Params.{allUpTo, soundTof}
 use Rattle.tof.specs.declared.TofScale.{TofScale}
 use Rattle.tof.specs.TofAnswers.{buildChecks, buildNumber, buildAnswer}
-use Rattle.tof.specs.Tof.{Sound, edge, inScale, binOf, lastBin, windowBetween, windowBins, soundStep, soundEnds, agreeing, scaleChecks, scaleNumber, lowest, highest, rounded, scaleOf}
+use Rattle.tof.specs.Tof.{Sound, edge, inScale, binOf, lastBin, windowBetween, windowBins, soundStep, soundEnds, agreeing, scaleChecks, scaleNumber, lowestTof, highestTof, rounded, scaleOf}
 use Rattle.tof.specs.TofLaws.{ScaleLowest, BuildLowest, SoundAtZero, ZeroForSound, BinsHeld, EdgesHeld, LastEdge, BinBelow, BinEdges, RowHeld, CenterRounded, orElse, rustBetween, rustWindow, WindowIsRusts, OneValue, NoScale, BuiltSound}
 
 -- ---- numbers
@@ -233,13 +233,13 @@ max-leb a b limit = go (leb a limit) (leb b limit) refl refl
     go true true ep eq =
         let h = leb-true a limit ep in let k = leb-true b limit eq in rw (ep, eq, le-leb (max a b) limit (omega arith))
 
-pub up-to-highest : (limit : ℕ) (ts : List ℕ) → allUpTo limit ts ≡ leb (highest ts) limit
-unfolding allUpTo highest
+pub up-to-highest : (limit : ℕ) (ts : List ℕ) → allUpTo limit ts ≡ leb (highestTof ts) limit
+unfolding allUpTo highestTof
 up-to-highest limit [] = sym (le-leb 0 limit (omega arith))
-up-to-highest limit (t ∷ ts) = rw (up-to-highest limit ts) (max-leb t (highest ts) limit)
+up-to-highest limit (t ∷ ts) = rw (up-to-highest limit ts) (max-leb t (highestTof ts) limit)
 
-bounds : (ts : List ℕ) (i : ℕ) → i < length ts → (lowest ts ≤ getD ts i 0) × (getD ts i 0 ≤ highest ts)
-unfolding lowest highest
+bounds : (ts : List ℕ) (i : ℕ) → i < length ts → (lowestTof ts ≤ getD ts i 0) × (getD ts i 0 ≤ highestTof ts)
+unfolding lowestTof highestTof
 bounds [] i h = absurd (omega arith)
 bounds (t ∷ ts) zero h = (omega arith, omega arith)
 bounds (t ∷ ts) (suc i) h = let r = bounds ts i (omega arith) in (omega arith, omega arith)
@@ -248,8 +248,8 @@ bounds (t ∷ ts) (suc i) h = let r = bounds ts i (omega arith) in (omega arith,
 pub no-scale-one : OneValue
 no-scale-one ts h i j a b = let p = bounds ts i a in let q = bounds ts j b in omega arith
 
-same : (v : ℕ) (ts : List ℕ) → v ≤ maxTof → ((i : ℕ) → i < length ts → getD ts i 0 ≡ v) → (highest ts ≤ v) × (v ≤ lowest ts)
-unfolding lowest highest
+same : (v : ℕ) (ts : List ℕ) → v ≤ maxTof → ((i : ℕ) → i < length ts → getD ts i 0 ≡ v) → (highestTof ts ≤ v) × (v ≤ lowestTof ts)
+unfolding lowestTof highestTof
 same v [] u h = (omega arith, omega arith)
 same v (t ∷ ts) u h =
     let e : t ≡ v = h 0 (omega arith) in
@@ -257,10 +257,10 @@ same v (t ∷ ts) u h =
     (omega arith, omega arith)
 
 pub one-no-scale : NoScale
-unfolding lowest highest
+unfolding lowestTof highestTof
 one-no-scale [] u h = omega arith
 one-no-scale (t ∷ ts) u h =
-    let k : highest (t ∷ ts) ≤ maxTof = leb-true _ _ (sym (up-to-highest maxTof (t ∷ ts)) ∙ u) in
+    let k : highestTof (t ∷ ts) ≤ maxTof = leb-true _ _ (sym (up-to-highest maxTof (t ∷ ts)) ∙ u) in
     let r = same t (t ∷ ts) (omega arith) (λ (i : ℕ) (l : i < length (t ∷ ts)). h i 0 l (omega arith)) in
     omega arith
 
@@ -288,16 +288,16 @@ scale-sound lo hi step p o u =
 -- a scale that is built is sound, so that no entry refuses it for its numbers
 pub built-sound : BuiltSound
 unfolding buildAnswer
-built-sound tofs step s h = go (ltb (lowest tofs) (highest tofs)) refl (ap (λ (a : Says (Option TofScale)). fromOption (λ o. o) none (a .values)) h)
+built-sound tofs step s h = go (ltb (lowestTof tofs) (highestTof tofs)) refl (ap (λ (a : Says (Option TofScale)). fromOption (λ o. o) none (a .values)) h)
   where
     n : buildNumber tofs step ≡ 0
     n = ap (λ (a : Says (Option TofScale)). a .number) h
 
-    go : (d : Bool) → ltb (lowest tofs) (highest tofs) ≡ d
-        → fromOption (λ o. o) none (cond (eqb (buildNumber tofs step) 0) (some (cond d (some (scaleOf (lowest tofs) (highest tofs) step)) none)) none) ≡ some s → Sound s
+    go : (d : Bool) → ltb (lowestTof tofs) (highestTof tofs) ≡ d
+        → fromOption (λ o. o) none (cond (eqb (buildNumber tofs step) 0) (some (cond d (some (scaleOf (lowestTof tofs) (highestTof tofs) step)) none)) none) ≡ some s → Sound s
     go true e v =
-        let o : lowest tofs < highest tofs = ltb-true _ _ e in
-        let u : highest tofs ≤ maxTof = leb-true _ _ (sym (up-to-highest maxTof tofs) ∙ not-false _ (none-builds tofs step 5 n)) in
-        let k : scaleOf (lowest tofs) (highest tofs) step ≡ s = ap (fromOption (λ (t : TofScale). t) s) (rw n at v) in
-        subst Sound k (scale-sound (lowest tofs) (highest tofs) step (not-false _ (none-builds tofs step 4 n)) (omega arith) u)
+        let o : lowestTof tofs < highestTof tofs = ltb-true _ _ e in
+        let u : highestTof tofs ≤ maxTof = leb-true _ _ (sym (up-to-highest maxTof tofs) ∙ not-false _ (none-builds tofs step 5 n)) in
+        let k : scaleOf (lowestTof tofs) (highestTof tofs) step ≡ s = ap (fromOption (λ (t : TofScale). t) s) (rw n at v) in
+        subst Sound k (scale-sound (lowestTof tofs) (highestTof tofs) step (not-false _ (none-builds tofs step 4 n)) (omega arith) u)
     go false e v = clash false (ap (fromOption (λ (t : TofScale). true) false) (rw n at v)) refl

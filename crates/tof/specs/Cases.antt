@@ -14,7 +14,7 @@ use Rattle.tof.specs.declared.BinAnswer.{BinAnswer}
 use Rattle.tof.specs.declared.RangeAnswer.{RangeAnswer}
 use Rattle.tof.specs.declared.CenterAnswer.{CenterAnswer}
 use Rattle.tof.specs.declared.BoundsAnswer.{BoundsAnswer}
-use Rattle.tof.specs.Tof.{rowPlace, windowBins, centerF, centerAtF, soundStep, soundEnds, agreeing, scaleNumber, lowest, highest, scaleOf}
+use Rattle.tof.specs.Tof.{rowPlace, windowBins, centerF, centerAtF, soundStep, soundEnds, agreeing, scaleNumber, lowestTof, highestTof, scaleOf}
 use Rattle.tof.specs.TofAnswers.{buildNumber, buildSays, buildAnswer, binSays, binAnswer, rangeSays, rangeAnswer, centerSays, centerAnswer, centerAtAnswer, boundsSays, boundsAnswer}
 
 abbrev scale : ℕ → ℕ → ℕ → ℕ → TofScale
@@ -25,7 +25,7 @@ abbrev byFour : TofScale
 byFour = scale 0 8 4 3
 
 built : buildAnswer (3 ∷ 10 ∷ 0 ∷ 7 ∷ []) 4 ≡ buildSays (BuildAnswer.Scale byFour)
-unfolding buildAnswer buildNumber firstOf soundStep allUpTo lowest highest scaleOf
+unfolding buildAnswer buildNumber firstOf soundStep allUpTo lowestTof highestTof scaleOf
 built = refl
 
 eight : binAnswer byFour 8 ≡ binSays (BinAnswer.Bin 2)
@@ -46,15 +46,15 @@ seven-and-a-half = refl
 
 -- no value, and one distinct value; two values in one bin give a scale
 none : buildAnswer [] 4 ≡ buildSays BuildAnswer.NoScale
-unfolding buildAnswer buildNumber firstOf soundStep allUpTo lowest highest
+unfolding buildAnswer buildNumber firstOf soundStep allUpTo lowestTof highestTof
 none = refl
 
 one : buildAnswer (7 ∷ 7 ∷ []) 4 ≡ buildSays BuildAnswer.NoScale
-unfolding buildAnswer buildNumber firstOf soundStep allUpTo lowest highest
+unfolding buildAnswer buildNumber firstOf soundStep allUpTo lowestTof highestTof
 one = refl
 
 two : buildAnswer (6 ∷ 5 ∷ []) 4 ≡ buildSays (BuildAnswer.Scale (scale 4 4 4 1))
-unfolding buildAnswer buildNumber firstOf soundStep allUpTo lowest highest scaleOf
+unfolding buildAnswer buildNumber firstOf soundStep allUpTo lowestTof highestTof scaleOf
 two = refl
 
 -- a window with its ends turned, one past the top and one at the bottom

@@ -111,16 +111,16 @@ scaleNumber s value tofs = firstOf (scaleChecks s value tofs)
 -- ---- a scale of TOF values
 
 -- the lowest and the highest of some TOF values; of none, the highest u32 and 0
-unfoldable pub lowest : List ℕ → ℕ
-lowest [] = 4294967295
-lowest (t ∷ ts) = min t (lowest ts)
+unfoldable pub lowestTof : List ℕ → ℕ
+lowestTof [] = 4294967295
+lowestTof (t ∷ ts) = min t (lowestTof ts)
 
-unfoldable pub highest : List ℕ → ℕ
-highest [] = 0
-highest (t ∷ ts) = max t (highest ts)
+unfoldable pub highestTof : List ℕ → ℕ
+highestTof [] = 0
+highestTof (t ∷ ts) = max t (highestTof ts)
 
 abbrev pub endsOf : List ℕ → Span
-endsOf tofs = record { lo = lowest tofs; hi = highest tofs }
+endsOf tofs = record { lo = lowestTof tofs; hi = highestTof tofs }
 
 -- t rounded down to a multiple of the step
 abbrev pub rounded : ℕ → ℕ → ℕ

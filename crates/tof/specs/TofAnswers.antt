@@ -19,7 +19,7 @@ use Rattle.tof.specs.declared.RangeAnswer.{RangeAnswer}
 use Rattle.tof.specs.declared.CenterAnswer.{CenterAnswer}
 use Rattle.tof.specs.declared.BoundsAnswer.{BoundsAnswer}
 use Rattle.tof.specs.declared.inner.Span.{Span}
-use Rattle.tof.specs.Tof.{edge, inScale, binOf, windowBins, centerF, centerAtF, soundStep, scaleNumber, lowest, highest, scaleOf}
+use Rattle.tof.specs.Tof.{edge, inScale, binOf, windowBins, centerF, centerAtF, soundStep, scaleNumber, lowestTof, highestTof, scaleOf}
 
 -- ---- building
 
@@ -42,7 +42,7 @@ buildNumber tofs step = firstOf (buildChecks tofs step)
 -- no value, or one distinct value, gives no scale
 abbrev pub scaleFrom : List ℕ → ℕ → Option TofScale
 scaleFrom tofs step =
-    cond (ltb (lowest tofs) (highest tofs)) (some (scaleOf (lowest tofs) (highest tofs) step)) none
+    cond (ltb (lowestTof tofs) (highestTof tofs)) (some (scaleOf (lowestTof tofs) (highestTof tofs) step)) none
 
 unfoldable pub buildAnswer : List ℕ → ℕ → Says (Option TofScale)
 buildAnswer tofs step = answerBy (buildNumber tofs step) (scaleFrom tofs step)

@@ -12,7 +12,7 @@ use Rattle.tof.specs.declared.TofScale.{TofScale}
 use Rattle.tof.specs.declared.inner.Span.{Span}
 use Rattle.tof.specs.declared.BuildAnswer.{BuildAnswer}
 use Rattle.tof.specs.TofAnswers.{buildChecks, buildNumber, buildSays, buildAnswer}
-use Rattle.tof.specs.Tof.{Sound, edge, inScale, binOf, lastBin, windowBins, rowPlace, scaleChecks, scaleNumber, lowest, highest}
+use Rattle.tof.specs.Tof.{Sound, edge, inScale, binOf, lastBin, windowBins, rowPlace, scaleChecks, scaleNumber, lowestTof, highestTof}
 
 -- ---- numbers
 
@@ -92,13 +92,13 @@ WindowIsRusts = (s : TofScale) → Sound s → (a b : ℕ) → windowBins s a b 
 -- where there is no scale, any two values are one: `no-scale-one`
 abbrev pub OneValue : Type 0
 OneValue =
-    (ts : List ℕ) → highest ts ≤ lowest ts → (i j : ℕ) → i < length ts → j < length ts → getD ts i 0 ≡ getD ts j 0
+    (ts : List ℕ) → highestTof ts ≤ lowestTof ts → (i j : ℕ) → i < length ts → j < length ts → getD ts i 0 ≡ getD ts j 0
 
 -- and where any two are one, there is none: `one-no-scale`
 abbrev pub NoScale : Type 0
 NoScale =
     (ts : List ℕ) → allUpTo maxTof ts ≡ true → ((i j : ℕ) → i < length ts → j < length ts → getD ts i 0 ≡ getD ts j 0)
-    → highest ts ≤ lowest ts
+    → highestTof ts ≤ lowestTof ts
 
 -- a scale that is built is sound, so that no entry refuses it for its numbers: `built-sound`
 abbrev pub BuiltSound : Type 0

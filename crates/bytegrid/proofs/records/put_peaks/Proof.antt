@@ -8,7 +8,7 @@ use borrow.Author.Needs.{needs}
 use lib.Dec.{T, ltb, leb, eqb}
 use Rattle.rowsearch.specs.Found.{Standing, oldest}
 use Rattle.rowsearch.proofs.Laws.{next, none-yet, all-now}
-use Rattle.row.specs.Steps.{Inside, Listed}
+use Rattle.row.specs.Steps.{Inside, RecordsPut}
 use Rattle.row.specs.declared.inner.OnAxes.{OnAxes}
 use Rattle.wordbytes.specs.Bytes.{wordsOf, floatsOf}
 use Rattle.wordbytes.proofs.BytesLaws.{words-length}
@@ -21,7 +21,7 @@ use Rattle.bytegrid.proofs.records.put_peaks.Statement.{statement}
 use Rattle.bytegrid.proofs.records.put_peaks.Tie as tie
 
 abbrev Inv-loop : tie.InvT-loop
-Inv-loop found n y z place bounds mobility scans first out₀ j₀ out j = (j ≤ n) × (length out ≡ length out₀) × ((ks : List ℕ) → Standing y z found n ks → Listed asBytes place bounds (floatsOf mobility) (wordsOf scans) y z first out₀ out j (oldest j ks))
+Inv-loop found n y z place bounds mobility scans first out₀ j₀ out j = (j ≤ n) × (length out ≡ length out₀) × ((ks : List ℕ) → Standing y z found n ks → RecordsPut asBytes place bounds (floatsOf mobility) (wordsOf scans) y z first out₀ out j (oldest j ks))
 
 abbrev μ-loop : tie.MeasureT-loop
 μ-loop found n y z place bounds mobility scans first out₀ j₀ out j = n - j

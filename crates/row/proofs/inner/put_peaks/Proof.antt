@@ -8,7 +8,7 @@ use borrow.Author.Needs.{needs}
 use lib.Dec.{T, ltb, leb, eqb}
 use Rattle.rowsearch.specs.Found.{Standing, oldest}
 use Rattle.rowsearch.proofs.Laws.{next, none-yet, all-now}
-use Rattle.row.specs.Steps.{Listed}
+use Rattle.row.specs.Steps.{RecordsPut}
 use Rattle.row.specs.Written.{asWords}
 use Rattle.row.proofs.Laws.{put-words, next-listed, listed-none, read-inside, read-is}
 use Rattle.row.specs.Row.{peakOf}
@@ -23,7 +23,7 @@ use Rattle.row.proofs.inner.peak_of.Reads as peak-of-reads
 use Rattle.rowsearch.proofs.inner.measured_at.Reads as measured-at-reads
 
 abbrev Inv-loop : tie.InvT-loop
-Inv-loop found n y z place bounds mobility axis first out₀ j₀ out j = (j ≤ n) × (length out ≡ length out₀) × ((ks : List ℕ) → Standing y z found n ks → Listed asWords place bounds mobility axis y z first out₀ out j (oldest j ks))
+Inv-loop found n y z place bounds mobility axis first out₀ j₀ out j = (j ≤ n) × (length out ≡ length out₀) × ((ks : List ℕ) → Standing y z found n ks → RecordsPut asWords place bounds mobility axis y z first out₀ out j (oldest j ks))
 
 abbrev μ-loop : tie.MeasureT-loop
 μ-loop found n y z place bounds mobility axis first out₀ j₀ out j = n - j

@@ -1,6 +1,6 @@
 use mathlib.Core.Bool.{_||_}
 use lib.Ieee.{le}
-use Rattle.rowsearch.specs.Qualifying.{highest, reaches}
+use Rattle.rowsearch.specs.Qualifying.{highestReading, reaches}
 use Rattle.numeric.specs.Arith.{at, 𝟎}
 use Rattle.rowsearch.proofs.Laws.{some, highest-reaches, zero-no-nan, some-step, some-end, or-assoc}
 use mathlib.Core.Path.{_≡_, sym, _∙_}
@@ -12,7 +12,7 @@ use Rattle.rowsearch.proofs.inner.reaches_floor.Statement.{statement}
 use Rattle.rowsearch.proofs.inner.reaches_floor.Tie as tie
 
 abbrev Inv-loop : tie.InvT-loop
-Inv-loop z floor any₀ i₀ i-end any i = (i ≤ length z) × (reaches floor (highest 𝟎 z) ≡ (any || some floor (drop i z)))
+Inv-loop z floor any₀ i₀ i-end any i = (i ≤ length z) × (reaches floor (highestReading 𝟎 z) ≡ (any || some floor (drop i z)))
 
 abbrev μ-loop : tie.MeasureT-loop
 μ-loop z floor any₀ i₀ i-end any i = length z - i

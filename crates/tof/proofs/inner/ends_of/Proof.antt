@@ -1,6 +1,6 @@
 use Rattle.tof.proofs.Laws.{low-le}
 use Prim.Native.Nat.{min, max}
-use Rattle.tof.specs.Tof.{lowest, highest}
+use Rattle.tof.specs.Tof.{lowestTof, highestTof}
 use Rattle.tof.proofs.Laws.{low-step, high-step, low-end, high-end}
 use mathlib.Core.Path.{_≡_}
 use mathlib.Core.Logic.{⊎-elim}
@@ -12,7 +12,7 @@ use Rattle.tof.proofs.inner.ends_of.Statement.{statement}
 use Rattle.tof.proofs.inner.ends_of.Tie as tie
 
 abbrev Inv-loop : tie.InvT-loop
-Inv-loop tofs lo₀ hi₀ i₀ i-end lo hi i = (i ≤ length tofs) × (lo ≤ 4294967295) × (lowest tofs ≡ min lo (lowest (drop i tofs))) × (highest tofs ≡ max hi (highest (drop i tofs)))
+Inv-loop tofs lo₀ hi₀ i₀ i-end lo hi i = (i ≤ length tofs) × (lo ≤ 4294967295) × (lowestTof tofs ≡ min lo (lowestTof (drop i tofs))) × (highestTof tofs ≡ max hi (highestTof (drop i tofs)))
 
 abbrev μ-loop : tie.MeasureT-loop
 μ-loop tofs lo₀ hi₀ i₀ i-end lo hi i = length tofs - i
@@ -50,8 +50,8 @@ returns c = let l = c .before in
     let ts = l .before .args .tofs .now in
     let a = low-end ts (l .loop .i) (omega arith) in
     let b = high-end ts (l .loop .i) (omega arith) in
-    let lo : l .loop .lo ≡ lowest ts = omega arith in
-    let hi : l .loop .hi ≡ highest ts = omega arith in
+    let lo : l .loop .lo ≡ lowestTof ts = omega arith in
+    let hi : l .loop .hi ≡ highestTof ts = omega arith in
     rw (lo, hi)
 
 pub ends-of-spec : {M : Type 1} → statement M
