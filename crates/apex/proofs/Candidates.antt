@@ -1,7 +1,7 @@
 -- What is known of the candidates of a row: no two are neighbours, so that at most every second sample is one; none is at
--- an end of the row; and all of them are listed, once each, ascending. Assumes nothing.
+-- an end of the row; and all of them are listed, once each, ascending.
 use mathlib.Core.Path.{_≡_, refl, sym, ap, _∙_}
-use mathlib.Core.Bool.{Bool, true, false, cond, _&&_}
+use mathlib.Core.Bool.{Bool, true, false, cond}
 use mathlib.Core.List.{List, [], _∷_, _++_, append-nil}
 use mathlib.Core.Logic.{_⊎_, inl, inr}
 use Prim.Native.Nat.{ℕ, zero, suc, _+_, _-_, _/_, _≤_, _<_}
@@ -13,20 +13,16 @@ use lib.ListN.{length, getD, length-append, List·getD-append}
 use lib.Seq.{getD-at}
 use lib.Ieee.{Float, lt, le}
 use Rattle.numeric.specs.Arith.{at}
-use Rattle.numeric.proofs.Laws.{clash}
+use Rattle.refusal.proofs.Bools.{both}
 use Rattle.numeric.proofs.Order.{le-not-lt}
 use Rattle.apex.specs.Apex.{isCandidate, candidatesTo}
 use Rattle.apex.specs.Candidates.{NotNeighbours, AtMostHalf, OnlyCandidates, AllCandidates, CandidatesAscend, Between}
 
 -- ---- no two are neighbours
-and-right : (a b : Bool) → (a && b) ≡ true → b ≡ true
-and-right true b h = h
-and-right false b h = clash false h refl
-
 pub not-neighbours : NotNeighbours
 unfolding isCandidate
 not-neighbours y i h =
-    let k : le (at y (i + 1)) (at y i) ≡ true = and-right (lt (at y (i - 1)) (at y i)) (le (at y (i + 1)) (at y i)) h in
+    let k : le (at y (i + 1)) (at y i) ≡ true = both (lt (at y (i - 1)) (at y i)) h .1 in
     let n : lt (at y i) (at y (suc i)) ≡ false = le-not-lt (at y i) (at y (suc i)) (rw add-one at k) in
     rw (sub-one, n)
 

@@ -1,4 +1,4 @@
--- One step of each walk from an apex, as the code's loops take it. Assumes nothing.
+-- One step of each walk from an apex, as the code's loops take it.
 use mathlib.Core.Path.{_≡_, refl, sym, ap, _∙_}
 use mathlib.Core.Bool.{Bool, true, false, cond, not, _&&_}
 use mathlib.Core.List.{List, [], _∷_}
@@ -13,7 +13,7 @@ use lib.Ieee.{Float, nan, inf, fin, lt, le, isNan}
 use Rattle.numeric.specs.Arith.{at}
 use borrow.Author.Tests.{not-true, ltb-true, ltb-false}
 use lib.Dec.{ltb}
-use Rattle.numeric.proofs.Laws.{clash}
+use Rattle.refusal.proofs.Bools.{clash, both}
 use Rattle.numeric.specs.Numeric.{maxF}
 use Rattle.numeric.proofs.Order.{lt-no-nan, le-no-nan, le-not-lt, not-lt, lt-le, le-trans, lt-le-trans}
 use Rattle.apex.specs.Apex.{noneBelow, leftOf, upToHigher, least, runAbove, leftFoot, rightFoot}
@@ -66,22 +66,18 @@ none-below-all (inf true ∷ vs) = none-below-all vs
 none-below-all (inf false ∷ vs) = none-below-all vs
 none-below-all (fin s m e ∷ vs) = none-below-all vs
 
-and-both : (a b : Bool) → (a && b) ≡ true → (a ≡ true) × (b ≡ true)
-and-both true b h = (refl, h)
-and-both false b h = clash false h refl
-
 -- neither a part of the row nor what is left of an index goes below the ground
 pub ground-drop : (low : Float) (y : List Float) (r : ℕ) → noneBelow low y ≡ true → noneBelow low (drop r y) ≡ true
 unfolding noneBelow
 ground-drop low y zero h = h
 ground-drop low [] (suc r) h = refl
-ground-drop low (v ∷ vs) (suc r) h = ground-drop low vs r (and-both (not (lt v low)) (noneBelow low vs) h .1)
+ground-drop low (v ∷ vs) (suc r) h = ground-drop low vs r (both (not (lt v low)) h .1)
 
 at-ground : (low : Float) (y : List Float) (k : ℕ) → noneBelow low y ≡ true → lt (at y k) low ≡ false
 unfolding noneBelow lt
 at-ground low [] k h = refl
-at-ground low (v ∷ vs) zero h = not-true (lt v low) (and-both (not (lt v low)) (noneBelow low vs) h .0)
-at-ground low (v ∷ vs) (suc k) h = at-ground low vs k (and-both (not (lt v low)) (noneBelow low vs) h .1)
+at-ground low (v ∷ vs) zero h = not-true (lt v low) (both (not (lt v low)) h .0)
+at-ground low (v ∷ vs) (suc k) h = at-ground low vs k (both (not (lt v low)) h .1)
 
 pub ground-left : (low : Float) (y : List Float) (l : ℕ) → noneBelow low y ≡ true → noneBelow low (leftOf y l) ≡ true
 unfolding leftOf noneBelow
@@ -101,7 +97,7 @@ pub walk-ground : (low apex m : Float) (xs : List Float) → isNan low ≡ false
 unfolding least upToHigher noneBelow
 walk-ground low apex m [] n h g = refl
 walk-ground low apex m (v ∷ vs) n h g =
-    let p = and-both (not (lt v low)) (noneBelow low vs) h in
+    let p = both (not (lt v low)) h in
     let stays : cond (lt v m) v m ≡ m = rw (above-ground low v m n (not-true (lt v low) (p .0)) g) in
     ap (λ (k : Float). least k (cond (lt apex v) [] (upToHigher apex vs))) stays ∙ go (lt apex v) (walk-ground low apex m vs n (p .1) g)
   where

@@ -1,4 +1,4 @@
--- Laws of the area under a row. Assumes nothing.
+-- Laws of the area under a row.
 use mathlib.Core.Path.{_≡_}
 use mathlib.Core.List.{List}
 use Prim.Native.Nat.{ℕ, suc, _≤_, _<_, _-_, _+_}

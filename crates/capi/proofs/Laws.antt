@@ -1,4 +1,4 @@
--- Laws of the C entry. Assumes nothing.
+-- Laws of the C entry.
 use mathlib.Core.Path.{_≡_, refl, sym, ap, _∙_}
 use mathlib.Core.Bool.{Bool, true, false, cond, _&&_, _||_}
 use mathlib.Core.List.{List}

@@ -1,4 +1,4 @@
--- What the number of a grid says, and which answer it is. Assumes nothing.
+-- What the number of a grid says, and which answer it is.
 use mathlib.Core.Path.{_≡_, refl}
 use mathlib.Core.Bool.{true, false}
 use Prim.Native.Nat.{ℕ}

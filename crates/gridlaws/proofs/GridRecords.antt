@@ -1,4 +1,4 @@
--- The records of a grid's list are those of its rows, one after another. Assumes nothing.
+-- The records of a grid's list are those of its rows, one after another.
 use mathlib.Core.Path.{_≡_, refl, sym, ap, _∙_, subst}
 use mathlib.Core.Bool.{Bool, true, false}
 use mathlib.Core.List.{List, _++_, append-assoc}

@@ -1,4 +1,4 @@
--- Each row of a grid that no number refuses is one that no number refuses, so that its records are sound. Assumes nothing.
+-- Each row of a grid that no number refuses is one that no number refuses, so that its records are sound.
 use mathlib.Core.Path.{_≡_, refl, sym, ap, _∙_}
 use mathlib.Core.Bool.{true, false}
 use mathlib.Core.List.{List, [], _++_, append-nil}

@@ -1,4 +1,4 @@
--- What is read where the merged groups have been written: the peak at place k is the merge of the k-th group. Assumes nothing.
+-- What is read where the merged groups have been written: the peak at place k is the merge of the k-th group.
 use mathlib.Core.Path.{_≡_, refl, ap, _∙_}
 use mathlib.Core.Bool.{Bool, true, false, cond}
 use mathlib.Core.List.{List, [], _∷_, _++_, append-assoc, foldl}

@@ -1,4 +1,4 @@
--- What holds of the groups, and of what is written of them. Assumes nothing.
+-- What holds of the groups, and of what is written of them.
 use mathlib.Core.Path.{_≡_, refl, sym, ap, subst, _∙_}
 use mathlib.Core.Bool.{Bool, true, false, cond}
 use mathlib.Core.List.{List, [], _∷_, _++_, reverse, reverseAux, reverse-cons, append-assoc, flatten}

@@ -1,4 +1,4 @@
--- The walk over the places, step by step. Assumes nothing.
+-- The walk over the places, step by step.
 use mathlib.Core.Path.{_≡_, refl, sym, ap, _∙_}
 use mathlib.Core.Bool.{true, false}
 use mathlib.Core.List.{List, [], _∷_, _++_, map, reverse, reverseAux, reverse-cons, foldl, foldl-append, append-assoc, append-nil}

@@ -7,7 +7,7 @@ use Prim.Native.Nat.{ℕ, _<_}
 use native.Mathlib.Omega.{arith}
 use borrow.Author.Tests.{eqb-true, eq-eqb, ne-eqb, ltb-true, ltb-false, lt-ltb}
 use lib.Dec.{ltb, eqb}
-use Rattle.numeric.proofs.Laws.{clash}
+use Rattle.refusal.proofs.Bools.{clash}
 use Rattle.matching.specs.Keys.{lexLt, numbers, keyLt}
 use Rattle.matching.specs.KeyLaws.{Irreflexive, Transitive, Asymmetric, SameNumbers, Total}
 

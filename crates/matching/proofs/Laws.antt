@@ -1,4 +1,4 @@
--- Laws of the order of keys. Assumes nothing.
+-- Laws of the order of keys.
 use mathlib.Core.Path.{_≡_, refl, sym}
 use mathlib.Core.Bool.{Bool, true, false, cond}
 use Prim.Native.Nat.{ℕ}

@@ -1,4 +1,4 @@
--- What one more peak does to the definitions. Assumes nothing.
+-- What one more peak does to the definitions.
 use mathlib.Core.Path.{_≡_, refl, ap}
 use mathlib.Core.Bool.{Bool, true, false, cond, _&&_, _||_}
 use mathlib.Core.List.{List, [], _∷_, _++_, append-nil, foldl-append}
@@ -6,7 +6,8 @@ use Prim.Native.Nat.{ℕ}
 use lib.Ieee.{Float}
 use Rattle.numeric.specs.Arith.{_⊕_, _⊘_, 𝟎, 𝟏}
 use Rattle.numeric.specs.Numeric.{maxF}
-use Rattle.numeric.proofs.Laws.{clash, and-true, and-assoc}
+use Rattle.refusal.proofs.Bools.{clash}
+use Rattle.numeric.proofs.Laws.{and-true, and-assoc}
 use Rattle.record.specs.declared.ImPeak1D.{ImPeak1D}
 use Rattle.merging.specs.Merging.{extreme, highestF, summed, having, isAny, haveAll, firstOf}
 

@@ -1,5 +1,5 @@
 -- What is known of a merged peak: its bounds are the extremes of the members' bounds, its identity is the least of the members',
--- and extremes of extremes are the extremes of all the members. Assumes nothing.
+-- and extremes of extremes are the extremes of all the members.
 use mathlib.Core.Path.{_≡_, refl, sym, _∙_}
 use mathlib.Core.Bool.{Bool, true, false}
 use mathlib.Core.List.{List, [], _∷_, _++_, map, flatten, append-nil, foldl, foldl-append, List·Memᴰ, List·Memᴰ·head, List·Memᴰ·tail, List·Memᴰ·not-nil, List·Memᴰ·cases-cons, List·Memᴰ·eq-of-singleton}
@@ -9,7 +9,7 @@ use native.Mathlib.Nat.{min-eq-left, min-eq-right, max-eq-left, max-eq-right}
 use native.Mathlib.Omega.{arith}
 use borrow.Author.Tests.{ltb-true, ltb-false}
 use lib.Dec.{ltb}
-use Rattle.numeric.proofs.Laws.{clash}
+use Rattle.refusal.proofs.Bools.{clash}
 use Rattle.record.specs.declared.ImPeak1D.{ImPeak1D}
 use Rattle.merging.specs.Merging.{extreme, lowestOf, highestOf, isAny, merged}
 use Rattle.merging.specs.MergingLaws.{Has, AllAny, tof, retention, frame, scan, absolute, low, high}

@@ -1,5 +1,5 @@
 -- The weights of one peak or more come to 1 at least: a mean is divided by their sum, and the scan sigma of a merged peak is there
--- exactly where a member has one. Assumes nothing.
+-- exactly where a member has one.
 use mathlib.Core.Path.{_≡_, refl}
 use mathlib.Core.Bool.{Bool, true, false, cond}
 use mathlib.Core.List.{List, [], _∷_, foldl}
@@ -13,7 +13,7 @@ use lib.Ieee.Fits.{down-pos}
 use lib.Ieee.Order.{round-mono}
 use Rattle.numeric.specs.Arith.{_⊕_, 𝟎, 𝟏}
 use Rattle.numeric.specs.Numeric.{maxF}
-use Rattle.numeric.proofs.Laws.{clash}
+use Rattle.refusal.proofs.Bools.{clash}
 use Rattle.numeric.proofs.Order.{le-not-lt, not-lt, lt-le-trans}
 use Rattle.record.specs.Record.{hasSigma}
 use Rattle.record.specs.declared.ImPeak1D.{ImPeak1D}

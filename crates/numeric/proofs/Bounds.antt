@@ -1,6 +1,6 @@
 -- Bounds on results. A finite binary32 value is a whole number of units of 2 ^ -149, the smallest one: its `mag`. A sum, difference,
 -- product or quotient of values with a clear sign rounds a fraction, and stays at or below each limit that the fraction
--- does not pass and that needs no rounding itself. Assumes nothing.
+-- does not pass and that needs no rounding itself.
 use mathlib.Core.Path.{_≡_, refl, sym, ap, ap₂, _∙_, subst}
 use mathlib.Core.Bool.{Bool, true, false, not, cond, _&&_, _||_, Bool·beq}
 use mathlib.Core.List.{List, [], _∷_}
@@ -24,7 +24,8 @@ use lib.Ieee.Positive.{num, den, den-pos, value→cross}
 use Rattle.numeric.specs.Arith.{_⊕_, _⊖_, _⊗_, _⊘_, 𝟎, 𝟏, indexF, at}
 use Rattle.numeric.specs.Numeric.{inRange, allInRange}
 use Rattle.numeric.specs.Plain.{Plain}
-use Rattle.numeric.proofs.Laws.{clash, no-nan}
+use Rattle.refusal.proofs.Bools.{clash}
+use Rattle.numeric.proofs.Laws.{no-nan}
 use Rattle.numeric.proofs.Order.{mul-ltb, mul-eqb, over, lt-or-eq}
 use Rattle.numeric.proofs.Patterns.{pattern, pattern-mono, plus-bits, le-bits, below-inf, no-minus, wider}
 

@@ -1,4 +1,4 @@
--- Laws of the helpers on binary32 values. Assumes nothing.
+-- Laws of the helpers on binary32 values.
 use mathlib.Core.Path.{_≡_, refl, sym, ap, _∙_, subst}
 use mathlib.Core.Bool.{Bool, true, false, not, _&&_, _||_}
 use mathlib.Core.List.{List}
@@ -14,13 +14,9 @@ use lib.IntN.{ℤ, pos, negsuc}
 use lib.Ieee.{Float, nan, inf, fin, binary32, up, down, lt, eq, ne, neg, isNan, ofBits, nanBits, toUnsigned, inFloat, fits}
 use lib.Ieee.Bits.{nanBits-is, nanBits-above}
 use lib.Ieee.Fits.{up-pos, down-pos}
+use Rattle.refusal.proofs.Bools.{clash, both}
 use Rattle.numeric.specs.Arith.{at}
 use Rattle.numeric.specs.Numeric.{absF, castF, inRange, allInRange}
-
--- ---- Booleans
-pub clash : {A : Type 0} (b : Bool) → b ≡ true → b ≡ false → A
-clash true p q = absurd (subst (λ (t : Bool). T t) q tt)
-clash false p q = absurd (subst (λ (t : Bool). T t) (sym p) tt)
 
 -- ---- whole numbers as floats
 pub index-in : (n : ℕ) → n ≤ 16777216 → T (inFloat binary32 (pos n))
@@ -113,11 +109,7 @@ pub abs-zero : (x : Float) → T (fits binary32 x) → eq x (fin false 0 (pos 0)
 unfolding eq absF
 abs-zero nan t h = clash false h refl
 abs-zero (inf s) t h = clash false h refl
-abs-zero (fin s m e) t h = zero-abs s m e t (eqb-true (m * up e * 1) (0 * 1 * down e) (first _ _ h))
-  where
-    first : (a b : Bool) → (a && b) ≡ true → a ≡ true
-    first true b h = refl
-    first false b h = h
+abs-zero (fin s m e) t h = zero-abs s m e t (eqb-true (m * up e * 1) (0 * 1 * down e) (both (eqb (m * up e * 1) (0 * 1 * down e)) h .0))
 
 pub abs-else : (x : Float) → T (fits binary32 x) → lt x (fin false 0 (pos 0)) ≡ false → eq x (fin false 0 (pos 0)) ≡ false → x ≡ absF x
 unfolding lt eq absF

@@ -1,6 +1,6 @@
 -- The order of floats, `lt`, `le` and `eq` as Boolean functions, and the size of a difference, which is the same both ways.
 -- Floats that are no NaN order like natural numbers: for any three of them there are three numbers that compare the same
--- way (`three`), and each law of the order is read off such numbers. Where a NaN stands, a premise fails. Assumes nothing.
+-- way (`three`), and each law of the order is read off such numbers. Where a NaN stands, a premise fails.
 use mathlib.Core.Path.{_≡_, refl, sym, ap, ap₂, _∙_}
 use mathlib.Core.Bool.{Bool, true, false, not, cond, _&&_, _||_, Bool·beq}
 use mathlib.Core.Logic.{_⊎_, inl, inr, ⊎-elim}
@@ -13,7 +13,8 @@ use lib.Ieee.{Float, nan, inf, fin, Format, prec, emax, low, up, down, below, le
 use lib.Ieee.Fits.{down-pos}
 use lib.Ieee.Positive.{num, den, den-pos}
 use Rattle.numeric.specs.Numeric.{absF}
-use Rattle.numeric.proofs.Laws.{clash, and-true}
+use Rattle.refusal.proofs.Bools.{clash}
+use Rattle.numeric.proofs.Laws.{and-true}
 
 -- ---- two tests that say the same
 same-ltb : (a b c d : ℕ) → (a < b → c < d) → (b ≤ a → d ≤ c) → ltb a b ≡ ltb c d

@@ -1,26 +1,26 @@
--- Floats with a clear sign order like their bit patterns, infinity included. Assumes nothing.
+-- Floats with a clear sign order like their bit patterns, infinity included.
 use mathlib.Core.Path.{_≡_, refl, sym, ap, _∙_, subst}
-use mathlib.Core.Bool.{Bool, true, false, not, cond, _&&_, _||_, Bool·beq}
+use mathlib.Core.Bool.{Bool, true, false, _&&_, _||_}
 use mathlib.Core.List.{List, [], _∷_}
 use mathlib.Core.Logic.{inl, inr}
-use Prim.Native.Nat.{ℕ, zero, suc, _+_, _-_, _*_, _/_, _%_, _^_, _≤_, _<_}
+use Prim.Native.Nat.{ℕ, zero, suc, _+_, _-_, _*_, _/_, _^_, _≤_, _<_}
 use native.Mathlib.Omega.{arith}
-use native.Mathlib.Nat.{le-trans, le-of-eq, lt-of-le-of-lt, eq-or-lt-of-le, zero-add, mul-right-comm, mul-le-mul-right, suc-mul, le-div-iff-mul-le, div-lt-iff-lt-mul, pow-succ', zero-mul, mul-pos, mul-lt-mul-of-pos-right}
+use native.Mathlib.Nat.{le-trans, le-of-eq, lt-of-le-of-lt, eq-or-lt-of-le, zero-add, mul-right-comm, mul-le-mul-right, suc-mul, le-div-iff-mul-le, pow-succ'}
 use borrow.Author.Tests.{ltb-true, leb-true, lt-ltb, le-ltb, le-leb, lt-leb, eqb-true}
-use lib.Dec.{T, ltb, leb, eqb, ltb→lt}
+use lib.Dec.{T, ltb, leb, eqb}
 use lib.IntN.{ℤ}
 use lib.ListN.{length, take, drop}
 use lib.Pow.{pow-add, pow-pos}
-use lib.Ieee.{Float, nan, inf, fin, Format, binary32, prec, emax, low, up, down, size, lt, le, eq, isNan, toBits, ofBits, fits, odd, units, round, sum, add, sub, neg}
+use lib.Ieee.{Float, nan, inf, fin, binary32, up, down, size, lt, le, eq, isNan, toBits, ofBits}
 use lib.Ieee.Digits.{size-lt, size-le, size-reaches}
-use lib.Ieee.Fits.{kept-lt, down-pos, and-r, inf-fits, sub-fits}
+use lib.Ieee.Fits.{kept-lt, down-pos}
 use lib.Ieee.Scale.{finite}
 use lib.Ieee.Nearest.{div-mono}
 use lib.Ieee.Bits.{ofBits-toBits}
 use Rattle.numeric.specs.Arith.{at}
 use Rattle.numeric.specs.Numeric.{inRange, allInRange}
 use Rattle.numeric.specs.Plain.{Plain, AllFit, AllPlain}
-use Rattle.numeric.proofs.Laws.{clash}
+use Rattle.refusal.proofs.Bools.{clash, both}
 use Rattle.numeric.proofs.Order.{lt-le, lt-irrefl, not-le, not-lt}
 
 -- ---- the pattern of n units of the smallest value, in a format of p digits behind the leading one: it grows with n
@@ -153,10 +153,6 @@ below-inf limit (inf false) l h = let k = leb-true 0x7f80_0000 limit h in absurd
 below-inf limit (fin s m e) l h = tt
 
 -- ---- what a check of readings gives
-both : (a b : Bool) → (a && b) ≡ true → (a ≡ true) × (b ≡ true)
-both true b h = (refl, h)
-both false b h = clash false h refl
-
 pub wider : (limit : ℕ) (x : Float) → limit ≤ 0x7f80_0000 → inRange limit x ≡ true → inRange 0x7f80_0000 x ≡ true
 unfolding inRange
 wider limit x l h = let w = leb-true (toBits binary32 x) limit h in le-leb (toBits binary32 x) 0x7f80_0000 (omega arith)
@@ -164,8 +160,8 @@ wider limit x l h = let w = leb-true (toBits binary32 x) limit h in le-leb (toBi
 pub range-at : (limit : ℕ) (y : List Float) (i : ℕ) → allInRange limit y ≡ true → i < length y → inRange limit (at y i) ≡ true
 unfolding allInRange
 range-at limit [] i h k = absurd (omega arith)
-range-at limit (x ∷ xs) zero h k = both (inRange limit x) (allInRange limit xs) h .0
-range-at limit (x ∷ xs) (suc i) h k = range-at limit xs i (both (inRange limit x) (allInRange limit xs) h .1) (omega arith)
+range-at limit (x ∷ xs) zero h k = both (inRange limit x) h .0
+range-at limit (x ∷ xs) (suc i) h k = range-at limit xs i (both (inRange limit x) h .1) (omega arith)
 
 pub all-plain : (limit : ℕ) (y : List Float) → limit ≤ 0x7f80_0000 → allInRange limit y ≡ true → AllFit y → AllPlain y
 all-plain limit y l h f i k = record { held = f i k; ranged = wider limit (at y i) l (range-at limit y i h k) }
@@ -174,7 +170,7 @@ pub all-wider : (limit top : ℕ) (y : List Float) → limit ≤ top → allInRa
 unfolding allInRange inRange
 all-wider limit top [] l h = refl
 all-wider limit top (x ∷ xs) l h =
-    let b = both (leb (toBits binary32 x) limit) (allInRange limit xs) h in
+    let b = both (leb (toBits binary32 x) limit) h in
     let w = leb-true (toBits binary32 x) limit (b .0) in
     rw (le-leb (toBits binary32 x) top (omega arith), all-wider limit top xs l (b .1))
 
@@ -184,10 +180,10 @@ unfolding allInRange
 all-take limit zero y h = refl
 all-take limit (suc n) [] h = refl
 all-take limit (suc n) (x ∷ xs) h =
-    let b = both (inRange limit x) (allInRange limit xs) h in rw (b .0, all-take limit n xs (b .1))
+    let b = both (inRange limit x) h in rw (b .0, all-take limit n xs (b .1))
 
 pub all-drop : (limit n : ℕ) (y : List Float) → allInRange limit y ≡ true → allInRange limit (drop n y) ≡ true
 unfolding allInRange
 all-drop limit zero y h = h
 all-drop limit (suc n) [] h = refl
-all-drop limit (suc n) (x ∷ xs) h = all-drop limit n xs (both (inRange limit x) (allInRange limit xs) h .1)
+all-drop limit (suc n) (x ∷ xs) h = all-drop limit n xs (both (inRange limit x) h .1)

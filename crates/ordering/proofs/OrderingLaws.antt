@@ -1,5 +1,4 @@
 -- What holds of the sort: it has the places that it was given, as many as there were, and none comes before an earlier one.
--- Assumes nothing.
 use mathlib.Core.Path.{_≡_, refl, sym, ap, _∙_}
 use mathlib.Core.Bool.{Bool, true, false, cond}
 use mathlib.Core.List.{List, [], _∷_, List·Memᴰ, List·Memᴰ·not-nil, List·Memᴰ·cases-cons}
@@ -9,7 +8,7 @@ use mathlib.Core.Logic.{_⊎_, inl, inr, ⊎-elim}
 use Prim.Native.Nat.{ℕ, zero, suc, _+_, _*_, _<_, _≤_}
 use native.Mathlib.Omega.{arith}
 use lib.ListN.{length, getD}
-use Rattle.numeric.proofs.Laws.{clash}
+use Rattle.refusal.proofs.Bools.{clash}
 use Rattle.record.specs.Record.{size, idAt, peakAt, peakFrom}
 use Rattle.matching.specs.Keys.{keyLt, numbers, lexLt, firstKey, secondKey}
 use Rattle.matching.proofs.KeyLaws.{transitive, asymmetric, same-numbers}

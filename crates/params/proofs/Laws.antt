@@ -1,4 +1,4 @@
--- Laws of lists that a loop reads from the front. Assumes nothing.
+-- Laws of lists that a loop reads from the front.
 use mathlib.Core.Path.{_≡_, refl}
 use mathlib.Core.Bool.{true, _&&_}
 use mathlib.Core.List.{List, [], _∷_}

@@ -1,4 +1,4 @@
--- The lines that stand at the front of a buffer, and one line more. Assumes nothing.
+-- The lines that stand at the front of a buffer, and one line more.
 use mathlib.Core.Path.{_≡_, refl, sym, _∙_, ap, subst}
 use mathlib.Core.Bool.{true}
 use mathlib.Core.List.{List, [], _∷_, _++_, append-assoc}

@@ -1,6 +1,6 @@
--- Laws of scans that count up, and of the text of a line. Assumes nothing.
+-- Laws of scans that count up, and of the text of a line.
 use mathlib.Core.Path.{_≡_, refl, sym, ap, _∙_}
-use mathlib.Core.Bool.{Bool, true, false, cond, _&&_}
+use mathlib.Core.Bool.{Bool, true, false, cond}
 use mathlib.Core.List.{List, [], _∷_, _++_, append-nil}
 use Prim.Native.Nat.{ℕ, zero, suc, _≤_, _<_, _+_, _-_}
 use native.Mathlib.Omega.{arith}
@@ -12,7 +12,7 @@ use lib.Seq.{take-all, take-append-le, take-at, length-take-le}
 use lib.Ieee.{Float}
 use Rattle.numeric.specs.Arith.{indexF}
 use Rattle.numeric.specs.Numeric.{allInRange}
-use Rattle.numeric.proofs.Laws.{clash}
+use Rattle.refusal.proofs.Bools.{both}
 use Rattle.table.specs.declared.Progress.{Progress}
 use Rattle.table.specs.declared.RowsSoFar.{RowsSoFar}
 use Rattle.table.specs.declared.Verdict.{Verdict}
@@ -68,10 +68,6 @@ first-row s t (RowText.Row n) e = go (isNext s n) e
     go true e = let k : s .rows + 1 ≡ t .rows = cc in omega arith
     go false e = let z : _≡_ {A = ℕ} 0 1 = cc in absurd (omega arith)
 
-and-right : (a b : Bool) → (a && b) ≡ true → b ≡ true
-and-right true b h = h
-and-right false b h = clash false h refl
-
 -- An accepted row: at most 4,096 readings, as many as are counted, and all of them numbers with a clear sign.
 record Accepted (line : List ℕ) (t : RowsSoFar) : Type 0 where
   first : 1 ≤ t .rows
@@ -84,7 +80,7 @@ unfolding verdict isRow readings
 accepted Progress.Start line t e = absurd (never-row (paramsOf line) t e)
 accepted (Progress.Rows s) line t e =
     let r = row-text line (t .count) (row-counted s t (rowText line) e) in
-    let m = leb-true (length (fields line)) 4096 (and-right (allNumbers 16777215 (fields line)) (leb (length (fields line)) 4096) (r .0)) in
+    let m = leb-true (length (fields line)) 4096 (both (allNumbers 16777215 (fields line)) (r .0) .1) in
     record {
       first = first-row s t (rowText line) e;
       most = omega (arith, r .1);

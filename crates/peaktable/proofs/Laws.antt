@@ -1,4 +1,4 @@
--- Laws of text that is put behind other text, and of bytes that move to the front of a buffer. Assumes nothing.
+-- Laws of text that is put behind other text, and of bytes that move to the front of a buffer.
 use mathlib.Core.Path.{_≡_, refl, sym, _∙_, ap, subst}
 use mathlib.Core.Bool.{Bool, true, false}
 use mathlib.Core.List.{List, [], _∷_, _++_, append-assoc, append-nil}

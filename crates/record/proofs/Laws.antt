@@ -1,4 +1,4 @@
--- Laws of records in a buffer. Assumes nothing.
+-- Laws of records in a buffer.
 use mathlib.Core.Path.{_≡_, _∙_, ap}
 use mathlib.Core.List.{List, [], _++_, append-nil}
 use Prim.Native.Nat.{ℕ, _≤_, _+_, _-_}

@@ -1,11 +1,11 @@
--- What answers say is as strong as which answers they are. Assumes nothing.
+-- What answers say is as strong as which answers they are.
 use mathlib.Core.Path.{_≡_, refl, _∙_, ap}
 use mathlib.Core.Bool.{Bool, true, false, cond}
-use mathlib.Core.Option.{none, some}
+use mathlib.Core.Option.{none, some, Option·getD}
 use Prim.Native.Nat.{ℕ}
 use borrow.Author.Tests.{ne-eqb}
 use lib.Dec.{eqb}
-use Rattle.refusal.specs.Answers.{Says, answerBy, countIn}
+use Rattle.refusal.specs.Answers.{Says, answerBy}
 use Rattle.refusal.specs.AnswersLaws.{fromOption, fromSays, Told}
 
 -- the two ways to answer, for a function that has the number n and values w
@@ -22,6 +22,10 @@ which accepted refused says again r n v e = again r ∙ ap (fromSays accepted re
     go : (z : Bool) → fromOption accepted (refused n) (cond z (some v) none) ≡ cond z (accepted v) (refused n)
     go true = refl
     go false = refl
+
+-- the count that goes with a number, where the value is a count: 0 where a number applies
+abbrev pub countIn : Says ℕ → ℕ
+countIn s = Option·getD (s .values) 0
 
 -- the count that is answered
 pub count-says : (s : Says ℕ) (n count : ℕ) → s ≡ answerBy n count → countIn s ≡ cond (eqb n 0) count 0

@@ -1,4 +1,4 @@
--- Laws of `firstOf`. Assumes nothing.
+-- Laws of `firstOf`.
 use mathlib.Core.Path.{_≡_, refl, sym, _∙_}
 use mathlib.Core.Bool.{Bool, true, false, cond, not, _&&_}
 use mathlib.Core.List.{List, [], _∷_, _++_}

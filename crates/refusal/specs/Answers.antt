@@ -1,6 +1,6 @@
 -- What an answer says: document 01's number and values.
 use mathlib.Core.Bool.{cond}
-use mathlib.Core.Option.{Option, none, some, Option·getD}
+use mathlib.Core.Option.{Option, none, some}
 use Prim.Native.Nat.{ℕ}
 use lib.Dec.{eqb}
 
@@ -12,7 +12,3 @@ pub record Says (A : Type 0) : Type 0 where
 -- what is answered to an input with the number n, which has the values v if that is 0
 abbrev pub answerBy : {A : Type 0} → ℕ → A → Says A
 answerBy n v = record { number = n; values = cond (eqb n 0) (some v) none }
-
--- the count that goes with a number, where the value is a count: 0 where a number applies
-abbrev pub countIn : Says ℕ → ℕ
-countIn s = Option·getD (s .values) 0

@@ -1,4 +1,4 @@
--- Whole numbers next to a place that lies between two whole numbers, or between two halves. Assumes nothing.
+-- Whole numbers next to a place that lies between two whole numbers, or between two halves.
 use mathlib.Core.Path.{_≡_, refl, sym, ap, _∙_, subst}
 use mathlib.Core.Bool.{true, false}
 use Prim.Native.Nat.{ℕ, _+_, _-_, _*_, _/_, _≤_, _<_}
@@ -13,7 +13,8 @@ use lib.Ieee.Exact.{HasValue}
 use lib.Ieee.Back.{round-whole, unsigned-back}
 use Rattle.numeric.specs.Arith.{_⊕_, 𝟎, ½, indexF}
 use Rattle.numeric.specs.Numeric.{clampF, castF}
-use Rattle.numeric.proofs.Laws.{clash, index-in}
+use Rattle.refusal.proofs.Bools.{clash}
+use Rattle.numeric.proofs.Laws.{index-in}
 use Rattle.numeric.proofs.Order.{lt-no-nan, not-lt, lt-asym, le-not-lt, lt-le-trans, le-lt-trans}
 use Rattle.rounding.specs.Rounding.{floorF, ceilF, roundF}
 use Rattle.rounding.proofs.Laws.{zeroF, halfF, add-is, lt-is, half-value}

@@ -1,4 +1,4 @@
--- Laws of `wholeBy` at the values that the tests of the code tell apart. Assumes nothing.
+-- Laws of `wholeBy` at the values that the tests of the code tell apart.
 use mathlib.Core.Path.{_≡_, refl, sym, ap, _∙_, subst}
 use mathlib.Core.Bool.{Bool, true, false, cond, not, _&&_}
 use Prim.Native.Nat.{ℕ, zero, suc, _+_, _-_, _*_, _/_, _%_, _^_, _≤_, _<_, compare}
@@ -15,7 +15,7 @@ use lib.Ieee.Exact.{HasValue, units-val, round-exact}
 use lib.Ieee.Back.{round-whole, whole-unique}
 use lib.Ieee.Nearest.{closest, closest-same, nearest-ge}
 use lib.Ieee.Scale.{round-same}
-use Rattle.numeric.proofs.Laws.{clash}
+use Rattle.refusal.proofs.Bools.{clash}
 use Rattle.rounding.specs.Rounding.{below, above, nearby, wholeBy, floorF, ceilF, roundF}
 
 -- the literals 0, 0.5, 1 and 2 ^ 23

@@ -1,4 +1,4 @@
--- Laws of a row's records and of its numbers. Assumes nothing.
+-- Laws of a row's records and of its numbers.
 use mathlib.Core.Path.{_≡_, refl, sym, ap, _∙_, subst}
 use mathlib.Core.Bool.{true}
 use mathlib.Core.List.{List, [], _∷_, _++_, append-assoc}

@@ -1,4 +1,4 @@
--- What the number of a row says, and which answer it is. Assumes nothing.
+-- What the number of a row says, and which answer it is.
 use mathlib.Core.Path.{_≡_, refl}
 use mathlib.Core.Bool.{true, false}
 use mathlib.Core.List.{List}

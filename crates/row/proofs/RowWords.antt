@@ -1,4 +1,4 @@
--- How many words the records of a row have. Assumes nothing.
+-- How many words the records of a row have.
 use mathlib.Core.Path.{_≡_, refl}
 use mathlib.Core.List.{List, [], _∷_}
 use Prim.Native.Nat.{ℕ, _+_, _*_}

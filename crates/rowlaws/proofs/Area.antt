@@ -1,5 +1,5 @@
 -- The area between two places of a row of readings from 0 to a limit: at most 2 ^ 18 times the limit. In units of the smallest value
--- (numeric/proofs/Bounds.antt). Assumes nothing.
+-- (numeric/proofs/Bounds.antt).
 use mathlib.Core.Path.{_≡_, refl, sym, ap, _∙_, subst}
 use mathlib.Core.Bool.{Bool, true, false, cond}
 use mathlib.Core.List.{List}

@@ -1,5 +1,5 @@
 -- Where a row crosses a height, next to an apex that has a reading not above the height on that side: between the apex and the row's
--- end. In units of the smallest value (numeric/proofs/Bounds.antt). Assumes nothing.
+-- end. In units of the smallest value (numeric/proofs/Bounds.antt).
 use mathlib.Core.Path.{_≡_, refl, sym, ap, ap₂, _∙_, subst}
 use mathlib.Core.Bool.{Bool, true, false, cond}
 use mathlib.Core.List.{List}
@@ -13,7 +13,7 @@ use lib.Dec.{ltb, lit<, lit≤}
 use lib.ListN.{length}
 use lib.Ieee.{Float, binary32, lt, ne, round}
 use Rattle.numeric.specs.Arith.{_⊕_, _⊖_, _⊘_, 𝟎, 𝟏, indexF, at}
-use Rattle.numeric.proofs.Laws.{clash}
+use Rattle.refusal.proofs.Bools.{clash}
 use Rattle.numeric.proofs.Bounds.{one, mag, Num, Rep, AtMost, one-pos, rep, rep-at, rep-whole, lt-mag, round-order, round-at-least, sub-is, add-at-most, add-at-least, sub-at-most, div-at-most, mag-zero, mag-one, num-zero, num-one}
 use Rattle.apex.specs.Apex.{partWay, leftFoot, rightFoot, leftCrossing, rightCrossing}
 use Rattle.apex.proofs.Laws.{left-on, left-stop, right-on, right-stop, left-above, right-above}

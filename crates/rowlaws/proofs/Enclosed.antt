@@ -1,4 +1,4 @@
--- The crossings at half height, for readings from 0 to 2 ^ 33. Assumes nothing.
+-- The crossings at half height, for readings from 0 to 2 ^ 33.
 use mathlib.Core.Path.{_≡_, refl, sym, _∙_, subst}
 use mathlib.Core.Bool.{true}
 use mathlib.Core.List.{List}

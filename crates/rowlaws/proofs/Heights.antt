@@ -1,5 +1,5 @@
 -- The baseline of an apex is not above its half height, which is not above the apex; and on either side there is a reading that is not
--- above the baseline. In units of the smallest value (numeric/proofs/Bounds.antt). Assumes nothing.
+-- above the baseline. In units of the smallest value (numeric/proofs/Bounds.antt).
 use mathlib.Core.Path.{_≡_, refl, sym, ap, _∙_, subst}
 use mathlib.Core.Bool.{Bool, true, false, cond}
 use mathlib.Core.List.{List, [], _∷_}

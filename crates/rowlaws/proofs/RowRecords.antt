@@ -1,4 +1,4 @@
--- The records at the front of a list are those of the apexes, one after another. Assumes nothing.
+-- The records at the front of a list are those of the apexes, one after another.
 use mathlib.Core.Path.{_≡_, refl, sym, ap, _∙_, subst}
 use mathlib.Core.Bool.{Bool, true, false}
 use mathlib.Core.List.{List, [], _∷_, _++_, append-assoc}

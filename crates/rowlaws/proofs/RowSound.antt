@@ -1,4 +1,4 @@
--- Each part of number 9, for the record of a sample with a neighbour on either side, in a row that no number refuses. Assumes nothing.
+-- Each part of number 9, for the record of a sample with a neighbour on either side, in a row that no number refuses.
 use mathlib.Core.Path.{_≡_, refl, sym, ap, _∙_, subst}
 use mathlib.Core.Bool.{Bool, true, false, not, _||_}
 use mathlib.Core.List.{List, _++_}

@@ -1,6 +1,6 @@
--- The samples next to the crossings, the scans of samples, and the width. Assumes nothing.
+-- The samples next to the crossings, the scans of samples, and the width.
 use mathlib.Core.Path.{_≡_, refl, sym, ap, _∙_}
-use mathlib.Core.Bool.{Bool, true, false, _&&_}
+use mathlib.Core.Bool.{true}
 use mathlib.Core.List.{List, [], _∷_}
 use Prim.Native.Nat.{ℕ, zero, suc, _-_, _*_, _≤_, _<_, min, zero-le}
 use native.Mathlib.Nat.{sub-le, le-trans, le-of-eq, mul-le-mul-right}
@@ -11,7 +11,7 @@ use lib.ListN.{length, getD}
 use lib.Ieee.{Float, le}
 use Rattle.numeric.specs.Arith.{_⊖_, 𝟎, indexF}
 use Rattle.numeric.specs.Numeric.{maxF, castF}
-use Rattle.numeric.proofs.Laws.{clash}
+use Rattle.refusal.proofs.Bools.{both}
 use Rattle.numeric.proofs.Bounds.{one, mag, rep-whole, le-mag, sub-at-most, mag-zero, num-zero}
 use Rattle.rounding.specs.Rounding.{floorF, ceilF}
 use Rattle.rounding.proofs.Guess.{cast-index, sample-near}
@@ -58,15 +58,11 @@ module _ (n i : ℕ) (inside : i < n) (short : n ≤ 16384) (lx rx : Float) (L :
       le-trans (le-of-eq (ap castF (b .is) ∙ cast-index (b .g) (omega arith))) u
 
 -- ---- scans
-both : (a b : Bool) → (a && b) ≡ true → (a ≡ true) × (b ≡ true)
-both true b h = (refl, h)
-both false b h = clash false h refl
-
 up-to : (limit : ℕ) (l : List ℕ) (k : ℕ) → allUpTo limit l ≡ true → getD l k 0 ≤ limit
 unfolding allUpTo
 up-to limit [] k h = zero-le
-up-to limit (s ∷ ss) zero h = leb-true s limit (both (leb s limit) (allUpTo limit ss) h .0)
-up-to limit (s ∷ ss) (suc k) h = up-to limit ss k (both (leb s limit) (allUpTo limit ss) h .1)
+up-to limit (s ∷ ss) zero h = leb-true s limit (both (leb s limit) h .0)
+up-to limit (s ∷ ss) (suc k) h = up-to limit ss k (both (leb s limit) h .1)
 
 rises : (s : ℕ) (ts : List ℕ) → risingFrom s ts ≡ true → (j k : ℕ) → j ≤ k → k ≤ length ts → getD (s ∷ ts) j 0 ≤ getD (s ∷ ts) k 0
 unfolding risingFrom
@@ -74,10 +70,10 @@ rises s ts h zero zero a b = le-of-eq refl
 rises s [] h j (suc k) a b = absurd (omega arith)
 rises s ts h (suc j) zero a b = absurd (omega arith)
 rises s (t ∷ ts) h zero (suc k) a b =
-    let p = both (ltb s t) (risingFrom t ts) h in
+    let p = both (ltb s t) h in
     let l = ltb-true s t (p .0) in
     le-trans (let w : s ≤ t = omega arith in w) (rises t ts (p .1) zero k (omega arith) (omega arith))
-rises s (t ∷ ts) h (suc j) (suc k) a b = rises t ts (both (ltb s t) (risingFrom t ts) h .1) j k (omega arith) (omega arith)
+rises s (t ∷ ts) h (suc j) (suc k) a b = rises t ts (both (ltb s t) h .1) j k (omega arith) (omega arith)
 
 pub scan-at-most : (limit : ℕ) (axis : List ℕ) (k : ℕ) → allUpTo limit axis ≡ true → scanAt axis k ≤ limit
 scan-at-most limit axis k h = up-to limit axis (min k (length axis - 1)) h

@@ -1,4 +1,4 @@
--- Results with their sign turned, and bounds on the size of results of either sign. Assumes nothing.
+-- Results with their sign turned, and bounds on the size of results of either sign.
 use mathlib.Core.Path.{_≡_, refl, sym, ap, ap₂, _∙_, subst}
 use mathlib.Core.Bool.{Bool, true, false, not, cond, _&&_, Bool·beq}
 use Prim.Native.Nat.{ℕ, zero, suc, _+_, _-_, _*_, _^_, _≤_, _<_}

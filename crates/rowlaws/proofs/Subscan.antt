@@ -1,5 +1,4 @@
 -- Where the parabola through three readings has its apex: a number, so that holding it to half a sample gives one from -0.5 to 0.5.
--- Assumes nothing.
 use mathlib.Core.Path.{_≡_, refl, sym, ap, _∙_, subst}
 use mathlib.Core.Bool.{Bool, true, false, cond}
 use Prim.Native.Nat.{ℕ, zero, suc, _+_, _*_, _%_, _^_, _≤_, _<_}
@@ -12,7 +11,7 @@ use lib.Ieee.{Float, nan, inf, fin, binary32, up, down, lt, isNan, ofBits, toBit
 use lib.Ieee.Fits.{down-pos, round-is}
 use Rattle.numeric.specs.Arith.{_⊕_, _⊖_, _⊗_, _⊘_, 𝟎, ½, 𝟐}
 use Rattle.numeric.specs.Numeric.{absF, clampF, quadF, inRange}
-use Rattle.numeric.proofs.Laws.{clash}
+use Rattle.refusal.proofs.Bools.{clash}
 use Rattle.numeric.proofs.Bounds.{one, mag, Num, Rep, AtMost, value, lt-mag, limit-num, at-most-in, mul-at-most}
 use Rattle.record.specs.Record.{offset}
 use Rattle.rowlaws.proofs.Signs.{abs-num, add-size, sub-size}

@@ -1,4 +1,4 @@
--- Whole numbers, and the whole numbers next to a place, in units of the smallest value (numeric/proofs/Bounds.antt). Assumes nothing.
+-- Whole numbers, and the whole numbers next to a place, in units of the smallest value (numeric/proofs/Bounds.antt).
 use mathlib.Core.Path.{_≡_, refl, sym, ap, _∙_, subst}
 use mathlib.Core.Bool.{true, false}
 use Prim.Native.Nat.{ℕ, _+_, _-_, _*_, _/_, _≤_, _<_, min}
@@ -12,7 +12,7 @@ use lib.Ieee.Exact.{HasValue}
 use lib.Ieee.Back.{round-whole}
 use Rattle.numeric.specs.Arith.{indexF}
 use Rattle.numeric.specs.Numeric.{castF}
-use Rattle.numeric.proofs.Laws.{clash}
+use Rattle.refusal.proofs.Bools.{clash}
 use Rattle.numeric.proofs.Bounds.{one, mag, plus, Num, one-pos, value, mag-is}
 use Rattle.rounding.specs.Rounding.{floorF, ceilF, roundF}
 

@@ -1,4 +1,4 @@
--- What the proofs of `rowsearch` cite. Assumes nothing.
+-- What the proofs of `rowsearch` cite.
 use mathlib.Core.Path.{_≡_, refl, sym, ap, _∙_, subst}
 use mathlib.Core.Bool.{Bool, true, false, cond, not, _&&_, _||_}
 use mathlib.Core.List.{List, [], _∷_, _++_, append-nil}
@@ -14,7 +14,7 @@ use lib.Seq.{drop-cons, length-take-le, getD-append-add, getD-take, drop-at, tak
 use lib.Ieee.{Float, nan, binary32, lt, le, isNan, ofBits, fits}
 use lib.Ieee.Bits.{ofBits-toBits}
 use Rattle.numeric.specs.Arith.{at, 𝟎, ½, _⊕_, _⊗_, _⊖_}
-use Rattle.numeric.proofs.Laws.{clash}
+use Rattle.refusal.proofs.Bools.{clash}
 use Rattle.numeric.proofs.Order.{lt-no-nan, lt-not-le, lt-trans, not-lt, lt-le-trans}
 use Rattle.apex.specs.Apex.{baseline, prominence, halfHeight}
 use Rattle.spans.specs.Span.{spanOf, widthOf}

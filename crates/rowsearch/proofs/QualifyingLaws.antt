@@ -1,5 +1,4 @@
 -- What holds of the qualifying and of the kept apexes of a row: what `Account` asks of qualifying apexes, and how many there can be.
--- Assumes nothing.
 use mathlib.Core.Path.{_≡_, refl, ap, _∙_}
 use mathlib.Core.Bool.{Bool, true, false, cond, _&&_}
 use mathlib.Core.List.{List, [], _∷_, _++_, List·Memᴰ·not-nil, List·Memᴰ·cases-cons, List·Memᴰ·append-cases, List·Memᴰ·eq-of-singleton}
@@ -12,7 +11,7 @@ use lib.Dec.{ltb}
 use lib.ListN.{length}
 use lib.Ieee.{Float, lt, le, isNan}
 use Rattle.numeric.specs.Arith.{at, 𝟎}
-use Rattle.numeric.proofs.Laws.{clash}
+use Rattle.refusal.proofs.Bools.{clash}
 use Rattle.numeric.proofs.Order.{lt-no-nan}
 use Rattle.apex.specs.Apex.{isCandidate, candidatesTo, candidates}
 use Rattle.apex.specs.Candidates.{CandidateAt}

@@ -1,5 +1,5 @@
 -- A smoothed row stays in range. In units of the smallest value (numeric/proofs/Bounds.antt) the weighted sum is at most 2 ^ t times
--- the sum of the weights met, since scaling by a power of two goes through every rounding. Assumes nothing.
+-- the sum of the weights met, since scaling by a power of two goes through every rounding.
 use mathlib.Core.Path.{_≡_, refl, sym, ap, _∙_, subst}
 use mathlib.Core.Bool.{Bool, true, false, cond, _&&_}
 use mathlib.Core.List.{List, [], _∷_}

@@ -1,4 +1,4 @@
--- Laws of tables, of buffers that are filled from one place to another, and of weighted sums. Assumes nothing.
+-- Laws of tables, of buffers that are filled from one place to another, and of weighted sums.
 use mathlib.Core.Path.{_≡_, refl, sym, _∙_, ap}
 use mathlib.Core.Bool.{Bool, true, false, cond, not, _&&_}
 use mathlib.Core.List.{List, [], _∷_, _++_, map, map-append, append-assoc, append-nil}

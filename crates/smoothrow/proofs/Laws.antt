@@ -1,4 +1,4 @@
--- Laws of the row that is searched. Assumes nothing.
+-- Laws of the row that is searched.
 use mathlib.Core.Path.{_≡_, refl, sym, ap, _∙_, subst}
 use mathlib.Core.Bool.{Bool, true, false, _||_}
 use mathlib.Core.List.{List, [], _++_}
@@ -12,7 +12,7 @@ use Rattle.limits.specs.Limits.{maxReading}
 use Rattle.numeric.specs.Arith.{𝟎}
 use Rattle.numeric.specs.Numeric.{allInRange}
 use Rattle.numeric.specs.Plain.{AllFit}
-use Rattle.numeric.proofs.Laws.{clash}
+use Rattle.refusal.proofs.Bools.{clash}
 use Rattle.numeric.proofs.Patterns.{all-wider}
 use Rattle.params.specs.declared.ImDetectParams.{ImDetectParams}
 use Rattle.smoothing.specs.Smoothing.{tabulate, smoothedAt, smoothed, normalised, soundWeights}

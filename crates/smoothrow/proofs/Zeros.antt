@@ -1,4 +1,4 @@
--- A row of zeros, smoothed by any weights, has only zeros and NaNs, so that nothing of it is listed. Assumes nothing.
+-- A row of zeros, smoothed by any weights, has only zeros and NaNs, so that nothing of it is listed.
 use mathlib.Core.Path.{_≡_, refl, sym, ap, _∙_}
 use mathlib.Core.Bool.{Bool, true, false, cond, _&&_, _||_, Bool·beq}
 use mathlib.Core.List.{List, [], _∷_}
@@ -14,7 +14,7 @@ use lib.Ieee.{Float, nan, inf, fin, binary32, up, down, unlike, round, sum, add,
 use lib.Ieee.Fits.{up-pos, down-pos}
 use lib.Ieee.Scale.{round-same}
 use Rattle.numeric.specs.Arith.{_⊕_, _⊗_, _⊘_, 𝟎, at}
-use Rattle.numeric.proofs.Laws.{clash}
+use Rattle.refusal.proofs.Bools.{clash, both}
 use Rattle.smoothing.specs.Smoothing.{radius, meets, weighted, met, smoothedAt, smoothed, normalised}
 use Rattle.smoothing.proofs.Laws.{at-tab, smoothed-length}
 use Rattle.apex.specs.Apex.{isCandidate, candidatesTo, candidates}
@@ -118,24 +118,16 @@ eq-idle nan h = refl
 eq-idle (inf s) h = clash false h refl
 eq-idle (fin s zero e) h = refl
 eq-idle (fin s (suc m) e) h =
-    let z : suc m * up e * 1 ≡ 0 * 1 * down e = eqb-true _ _ (first _ _ h) in
+    let z : suc m * up e * 1 ≡ 0 * 1 * down e = eqb-true _ _ (both (eqb (suc m * up e * 1) (0 * 1 * down e)) h .0) in
     let p : 0 < suc m * up e = mul-pos {m = suc m} (omega arith) (up-pos e) in absurd (omega arith)
-  where
-    first : (a b : Bool) → (a && b) ≡ true → a ≡ true
-    first true b h = refl
-    first false b h = h
 
 -- ---- a row of zeros
-pub both : (a b : Bool) → (a && b) ≡ true → (a ≡ true) × (b ≡ true)
-both true b h = (refl, h)
-both false b h = clash false h refl
-
 -- past the row there is a NaN
 row-idle : (z : List Float) (i : ℕ) → allZero z ≡ true → idle (at z i) ≡ true
 unfolding allZero idle
 row-idle [] i h = refl
-row-idle (x ∷ xs) zero h = eq-idle x (both (eq x 𝟎) (allZero xs) h .0)
-row-idle (x ∷ xs) (suc i) h = row-idle xs i (both (eq x 𝟎) (allZero xs) h .1)
+row-idle (x ∷ xs) zero h = eq-idle x (both (eq x 𝟎) h .0)
+row-idle (x ∷ xs) (suc i) h = row-idle xs i (both (eq x 𝟎) h .1)
 
 weighted-idle : (u z : List Float) (i k : ℕ) → allZero z ≡ true → idle (weighted u z i k) ≡ true
 unfolding weighted

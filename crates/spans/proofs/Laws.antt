@@ -1,4 +1,4 @@
--- What a kept span serves for, and the words of the memo. Assumes nothing.
+-- What a kept span serves for, and the words of the memo.
 use mathlib.Core.Path.{_≡_, refl, sym, ap, _∙_}
 use mathlib.Core.Bool.{true, false}
 use mathlib.Core.List.{List, _++_}
@@ -8,7 +8,7 @@ use native.Mathlib.Nat.{eq-or-lt-of-le, add-zero}
 use native.Mathlib.Omega.{arith}
 use borrow.Author.Tests.{lt-ltb, le-leb, lt-leb}
 use lib.Dec.{leb}
-use Rattle.numeric.proofs.Laws.{clash}
+use Rattle.refusal.proofs.Bools.{clash}
 use lib.ListN.{length, getD, take, List·getD-append}
 use lib.Seq.{getD-take, getD-append-add, length-take-le}
 use lib.Ieee.{Float, binary32, ofBits}

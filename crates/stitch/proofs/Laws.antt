@@ -1,4 +1,4 @@
--- A list whose first places have been replaced one by one, and what the two passes leave. Assumes nothing.
+-- A list whose first places have been replaced one by one, and what the two passes leave.
 use mathlib.Core.Path.{_≡_, sym, ap, subst, _∙_}
 use mathlib.Core.List.{List, [], _∷_, _++_, map, map-append, append-assoc}
 use Prim.Native.Nat.{ℕ, suc, _+_, _-_, _*_, _<_, _≤_}

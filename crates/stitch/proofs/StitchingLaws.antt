@@ -1,5 +1,4 @@
 -- What holds of the passes: every place is in a group, whose number the column has, and every owner is a stitched peak.
--- Assumes nothing.
 use mathlib.Core.Path.{_≡_, refl, sym, ap, subst, _∙_}
 use mathlib.Core.Bool.{Bool, true, false, cond, _||_}
 use mathlib.Core.List.{List, [], _∷_, _++_, map, map-append, map-map, flatten, List·Memᴰ, List·Memᴰ·not-nil, List·Memᴰ·cases-cons}
@@ -13,7 +12,7 @@ use borrow.Author.Tests.{eqb-true, eqb-false}
 use lib.Dec.{eqb}
 use lib.ListN.{length, getD, take, drop, length-append, length-drop, length-map, take-append-drop, List·getD-append}
 use lib.Seq.{take-suc, take-at, drop-at, ext-getD, getD-drop, getD-append-seam}
-use Rattle.numeric.proofs.Laws.{clash}
+use Rattle.refusal.proofs.Bools.{clash}
 use Rattle.record.specs.Record.{size}
 use Rattle.ordering.specs.Ordering.{keyAt, sortedBy, Within}
 use Rattle.ordering.proofs.OrderingLaws.{sort-length, sort-keeps, sort-given, sort-distinct}

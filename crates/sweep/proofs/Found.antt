@@ -1,4 +1,4 @@
--- What the turns of a row and the bases of its apexes make: a search's answer. Assumes nothing.
+-- What the turns of a row and the bases of its apexes make: a search's answer.
 use mathlib.Core.Path.{_≡_, ap, _∙_}
 use mathlib.Core.List.{List}
 use Prim.Native.Nat.{ℕ, zero, suc, _+_, _*_, _≤_, _<_}

@@ -1,4 +1,4 @@
--- The baseline of an apex is the one that the turns of the row give: a walk from an apex jumps from turn to turn. Assumes nothing.
+-- The baseline of an apex is the one that the turns of the row give: a walk from an apex jumps from turn to turn.
 use mathlib.Core.Path.{_≡_, refl, sym, ap, _∙_}
 use mathlib.Core.Bool.{Bool, true, false, cond}
 use mathlib.Core.List.{List, [], _∷_, map}

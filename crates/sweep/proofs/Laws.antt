@@ -1,4 +1,4 @@
--- How the stack of a sweep changes: an entry leaves it, an entry is put on it. Assumes nothing.
+-- How the stack of a sweep changes: an entry leaves it, an entry is put on it.
 use mathlib.Core.Path.{_≡_, refl, sym, ap, _∙_}
 use mathlib.Core.Bool.{Bool, true, false, cond}
 use mathlib.Core.List.{List}

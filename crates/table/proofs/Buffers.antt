@@ -1,4 +1,4 @@
--- Laws of lists that are put at a place of a buffer. Assumes nothing.
+-- Laws of lists that are put at a place of a buffer.
 use mathlib.Core.Path.{_≡_, sym, _∙_, ap, subst}
 use mathlib.Core.List.{List, [], _∷_, _++_, append-assoc}
 use Prim.Native.Nat.{ℕ, _≤_, _<_, _+_, _-_}

@@ -1,4 +1,4 @@
--- Laws of lines that are read byte by byte. Assumes nothing.
+-- Laws of lines that are read byte by byte.
 use mathlib.Core.Path.{_≡_, refl, sym, _∙_, ap, subst}
 use mathlib.Core.Bool.{Bool, true, false, cond, _&&_, _||_}
 use mathlib.Core.List.{List, [], _∷_, _++_, map, append-assoc}
@@ -13,7 +13,7 @@ use lib.Seq.{drop-cons, take-suc, set-at, length-take-le, take-all, drop-drop, d
 use lib.Ieee.{Float}
 use Rattle.limits.specs.Limits.{maxCount, lastRow}
 use Rattle.numeric.specs.Arith.{indexF}
-use Rattle.numeric.proofs.Laws.{clash}
+use Rattle.refusal.proofs.Bools.{clash, both, all3}
 use Rattle.table.specs.Sizes.{maxNumber, maxFields}
 use Rattle.table.specs.Text.{comma, onto, fields, allDigits, valueFrom, value, isNumber, allNumbers, isRow, readings, rowText, commaAt, numberText, paramsText, paramsFrom, paramsOf, lf, lfFrom}
 use Rattle.table.specs.declared.RowText.{RowText}
@@ -22,18 +22,6 @@ use Rattle.table.specs.declared.LineEnd.{LineEnd}
 use Rattle.table.specs.declared.RowsSoFar.{RowsSoFar}
 use Rattle.table.specs.declared.Verdict.{Verdict}
 use Rattle.table.specs.Table.{cr, endsInCr, opened, isNext, counted}
-
--- ---- Booleans
-pub both : (a b : Bool) → (a && b) ≡ true → (a ≡ true) × (b ≡ true)
-both true true e = (refl, refl)
-both true false e = clash false e refl
-both false b e = clash false e refl
-
-pub three : (a b c : Bool) → (a && b && c) ≡ true → (a ≡ true) × (b ≡ true) × (c ≡ true)
-three true true true e = (refl, refl, refl)
-three true true false e = clash false e refl
-three true false c e = clash false e refl
-three false b c e = clash false e refl
 
 -- ---- numbers
 pub nonzero : (n : ℕ) → (n ≡ 0 → ⊥) → 1 ≤ n
@@ -75,10 +63,10 @@ abbrev pub mayGoOn : ℕ → ℕ → Bool
 mayGoOn d b = leb 48 b && leb b 57 && ltb d 8
 
 pub end-room : (v d n : ℕ) → mayEnd v d n ≡ true → n < maxFields
-end-room v d n m = ltb-true n maxFields (three (leb 1 d) (leb v maxNumber) (ltb n maxFields) m .2)
+end-room v d n m = ltb-true n maxFields (all3 (leb 1 d) m .2)
 
 pub go-on-room : (d b : ℕ) → mayGoOn d b ≡ true → (48 ≤ b) × (b ≤ 57) × (d < 8)
-go-on-room d b m = let t = three (leb 48 b) (leb b 57) (ltb d 8) m in (leb-true 48 b (t .0), leb-true b 57 (t .1), ltb-true d 8 (t .2))
+go-on-room d b m = let t = all3 (leb 48 b) m in (leb-true 48 b (t .0), leb-true b 57 (t .1), ltb-true d 8 (t .2))
 
 unfoldable pub restIsRow : ℕ → ℕ → ℕ → List (List ℕ) → Bool
 restIsRow v d n [] = false
@@ -97,7 +85,7 @@ pub row-comma : (v d n : ℕ) (fs : List (List ℕ)) → 0 < length fs → d ≤
 unfolding restIsRow allNumbers isNumber allDigits valueFrom
 row-comma v d n [] h e m = absurd (omega arith)
 row-comma v d n (f ∷ fs) h e m =
-    let t = three (leb 1 d) (leb v maxNumber) (ltb n maxFields) m in
+    let t = all3 (leb 1 d) m in
     let k : n + suc (suc (length fs)) ≡ n + 1 + suc (length fs) = omega arith in
     rw (add-zero d, t .0, t .1, le-leb d 8 e, zero-add (length f), k)
 
@@ -105,7 +93,7 @@ pub row-digit : (v d n b : ℕ) (fs : List (List ℕ)) → 0 < length fs → may
 unfolding restIsRow allNumbers isNumber allDigits valueFrom
 row-digit v d n b [] h m = absurd (omega arith)
 row-digit v d n b (f ∷ fs) h m =
-    let t = three (leb 48 b) (leb b 57) (ltb d 8) m in
+    let t = all3 (leb 48 b) m in
     let k : d + suc (length f) ≡ d + 1 + length f = omega arith in
     rw (t .0, t .1, k)
 
@@ -431,7 +419,7 @@ cr-some (b ∷ c ∷ l) h = rw (sub-one (suc (suc (length l)))) (ap (λ (k : ℕ
 -- ---- verdicts
 pub next-room : (s : RowsSoFar) (n : ℕ) → isNext s n ≡ true → s .rows ≤ lastRow
 unfolding isNext
-next-room s n e = leb-true (s .rows) lastRow (both (eqb (s .count) 0 || eqb n (s .count)) (leb (s .rows) lastRow) e .1)
+next-room s n e = leb-true (s .rows) lastRow (both (eqb (s .count) 0 || eqb n (s .count)) e .1)
 
 pub row-counted : (s t : RowsSoFar) (x : RowText) → counted s x ≡ Verdict.Row t → x ≡ RowText.Row (t .count)
 row-counted s t RowText.Bad e = let z : _≡_ {A = ℕ} 0 1 = cc in absurd (omega arith)

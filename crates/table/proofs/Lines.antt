@@ -12,7 +12,7 @@ use lib.Dec.{leb, eqb}
 use lib.ListN.{length, take, drop}
 use lib.Seq.{take-at, take-take, drop-append-add}
 use Rattle.limits.specs.Limits.{maxCount}
-use Rattle.numeric.proofs.Laws.{clash}
+use Rattle.refusal.proofs.Bools.{clash, and-false}
 use Rattle.table.specs.Sizes.{maxNumber, maxFields, maxLine}
 use Rattle.table.specs.declared.LineEnd.{LineEnd}
 use Rattle.table.specs.declared.NumberText.{NumberText}
@@ -125,10 +125,6 @@ allOfDigits : List (List ℕ) → Bool
 allOfDigits [] = true
 allOfDigits (f ∷ fs) = allDigits f && allOfDigits fs
 
-and-false : (a b : Bool) → b ≡ false → (a && b) ≡ false
-and-false true b e = e
-and-false false b e = refl
-
 stays-bad : (b : ℕ) (fs : List (List ℕ)) → allOfDigits fs ≡ false → allOfDigits (onto b fs) ≡ false
 unfolding allOfDigits allDigits
 stays-bad b [] h = clash true refl h
@@ -168,7 +164,7 @@ bad-numbers limit (f ∷ fs) h = go (allDigits f) refl h (bad-numbers limit fs)
   where
     go : (d : Bool) → allDigits f ≡ d → (d && allOfDigits fs) ≡ false → (allOfDigits fs ≡ false → allNumbers limit fs ≡ false)
         → (isNumber limit f && allNumbers limit fs) ≡ false
-    go true e h r = and-false (isNumber limit f) (allNumbers limit fs) (r h)
+    go true e h r = rw (r h) (and-false (isNumber limit f))
     go false e h r = rw (number-digits limit f e)
 
 -- fields that are not all numbers are no parameters

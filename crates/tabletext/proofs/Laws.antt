@@ -1,4 +1,4 @@
--- Laws of text that is printed for bytes that come some at a time. Assumes nothing.
+-- Laws of text that is printed for bytes that come some at a time.
 use mathlib.Core.Path.{_≡_, refl, sym, _∙_, ap, subst}
 use mathlib.Core.Bool.{Bool, true, false, cond, not, _&&_}
 use mathlib.Core.List.{List, [], _∷_, _++_, append-assoc, append-nil}
@@ -9,7 +9,7 @@ use lib.Dec.{eqb}
 use lib.ListN.{length, take, drop, length-append, length-drop, drop-of-length-le}
 use lib.Seq.{take-at, drop-at, drop-drop, drop-append-add, drop-append-le, take-append-add, take-append-le, length-take-le}
 use borrow.Rule.Slice.PartMut.{putMid}
-use Rattle.numeric.proofs.Laws.{clash}
+use Rattle.refusal.proofs.Bools.{clash}
 use Rattle.table.specs.declared.Progress.{Progress}
 use Rattle.table.specs.declared.RowsSoFar.{RowsSoFar}
 use Rattle.table.specs.declared.Verdict.{Verdict}

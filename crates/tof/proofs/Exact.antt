@@ -1,4 +1,4 @@
--- Edges and centres of a sound scale are exact: no rounding takes place. Assumes nothing.
+-- Edges and centres of a sound scale are exact: no rounding takes place.
 use mathlib.Core.Path.{_≡_, sym, ap, _∙_, subst}
 use mathlib.Core.Bool.{Bool, true, false}
 use Prim.Native.Nat.{ℕ, _+_, _*_, _^_, _≤_, _<_}

@@ -1,4 +1,4 @@
--- Laws of the scale's steps. Assumes nothing.
+-- Laws of the scale's steps.
 use mathlib.Core.Path.{_≡_, refl, sym, ap, _∙_, subst}
 use mathlib.Core.Bool.{Bool, true, false, _&&_, _||_}
 use mathlib.Core.List.{List, [], _∷_}

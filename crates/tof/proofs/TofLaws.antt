@@ -1,4 +1,4 @@
--- What the definitions of the scale come to, for a reader and for the proofs. Assumes nothing.
+-- What the definitions of the scale come to, for a reader and for the proofs.
 use mathlib.Core.Path.{_≡_, refl, sym, _∙_, ap, subst}
 use mathlib.Core.Bool.{Bool, true, false, cond, _&&_}
 use mathlib.Core.List.{List, [], _∷_}

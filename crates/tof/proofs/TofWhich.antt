@@ -1,4 +1,4 @@
--- An answer is told by what it says. Assumes nothing.
+-- An answer is told by what it says.
 use mathlib.Core.Path.{_≡_, refl}
 use Rattle.refusal.specs.AnswersLaws.{fromSays}
 use Rattle.refusal.proofs.AnswersLaws.{which}

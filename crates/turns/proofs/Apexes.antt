@@ -1,6 +1,6 @@
--- The candidates of a row are the apexes among its turns. Assumes nothing.
+-- The candidates of a row are the apexes among its turns.
 use mathlib.Core.Path.{_≡_, refl, sym, ap, _∙_}
-use mathlib.Core.Bool.{Bool, true, false, _&&_}
+use mathlib.Core.Bool.{Bool, true, false}
 use mathlib.Core.List.{List, [], _∷_, _++_}
 use Prim.Native.Nat.{ℕ, zero, suc, _+_, _-_, _*_, _≤_, _<_}
 use native.Mathlib.Omega.{arith}
@@ -9,6 +9,7 @@ use borrow.Author.Tests.{ltb-true, ltb-false, lt-ltb, le-ltb, le-leb, lt-leb}
 use lib.Dec.{ltb}
 use lib.ListN.{length, List·getD-eq-default}
 use lib.Ieee.{Float, nan, lt, le, eq}
+use Rattle.refusal.proofs.Bools.{and-false}
 use Rattle.numeric.specs.Arith.{at}
 use Rattle.numeric.specs.Plain.{wordIn, AllPlain}
 use Rattle.numeric.proofs.Patterns.{lt-bits, le-bits}
@@ -17,10 +18,6 @@ use Rattle.apex.proofs.Candidates.{one-more, none-more}
 use Rattle.turns.specs.Turns.{turn, Turning, apexesOf}
 
 -- ---- one sample
-and-false : (a : Bool) → (a && false) ≡ false
-and-false true = refl
-and-false false = refl
-
 -- no candidate where the row falls to it, nor where it rises behind it, nor at the end
 module _ (y : List Float) (p : AllPlain y) where
   fallen : (i : ℕ) → i + 1 < length y → wordIn y (i + 1) ≤ wordIn y i → isCandidate y (suc i) ≡ false

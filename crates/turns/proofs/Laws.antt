@@ -1,4 +1,4 @@
--- What a pass over a row knows at a sample: the turns that it has passed, and the way it is on. Assumes nothing.
+-- What a pass over a row knows at a sample: the turns that it has passed, and the way it is on.
 use mathlib.Core.Path.{_≡_, refl, sym, ap, _∙_}
 use mathlib.Core.Bool.{Bool, true, false, not, cond, Bool·beq}
 use mathlib.Core.List.{List}

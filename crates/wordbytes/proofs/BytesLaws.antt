@@ -1,4 +1,4 @@
--- What holds of words in bytes: lengths, places, parts, and that nothing is lost either way. Assumes nothing.
+-- What holds of words in bytes: lengths, places, parts, and that nothing is lost either way.
 use mathlib.Core.Path.{_≡_, refl, sym, ap, subst, _∙_}
 use mathlib.Core.Bool.{Bool, true, false}
 use mathlib.Core.List.{List, [], _∷_, _++_, map}

@@ -1,4 +1,4 @@
--- Laws of buffers that are filled with words, and of tests that read words one by one. Assumes nothing.
+-- Laws of buffers that are filled with words, and of tests that read words one by one.
 use mathlib.Core.Path.{_≡_, refl, sym, ap, _∙_, subst}
 use mathlib.Core.Bool.{Bool, true, false, not, _&&_}
 use mathlib.Core.List.{List, [], _∷_, _++_, map, append-assoc, append-nil}

@@ -5,7 +5,7 @@ use native.Mathlib.Omega.{arith}
 use borrow.Author.Needs.{needs}
 use borrow.Author.Tests.{not-true, not-false}
 use lib.ListN.{take, length-take}
-use Rattle.numeric.proofs.Laws.{clash}
+use Rattle.refusal.proofs.Bools.{clash}
 use Rattle.table.specs.Lines.{noLf}
 use Rattle.peaktable.proofs.Laws.{stands-on, stands-done, stands-over}
 use Rattle.peaktable.proofs.after_bytes.Statement.{statement}

@@ -5,7 +5,7 @@ use Prim.Native.Nat.{_+_}
 use native.Mathlib.Omega.{arith}
 use borrow.Author.Needs.{needs}
 use lib.ListN.{drop, take, length-take}
-use Rattle.numeric.proofs.Laws.{clash}
+use Rattle.refusal.proofs.Bools.{clash}
 use Rattle.table.specs.Lines.{noLf}
 use Rattle.peaktable.proofs.Laws.{stands-on, stands-more, ends-here, ends-last, bytes-more}
 use Rattle.peaktable.proofs.next_turn.Statement.{statement}

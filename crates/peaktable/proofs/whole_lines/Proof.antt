@@ -6,7 +6,7 @@ use native.Mathlib.Omega.{arith}
 use borrow.Author.Needs.{needs}
 use borrow.Author.Tests.{not-true, not-false}
 use lib.ListN.{length, drop}
-use Rattle.numeric.proofs.Laws.{clash}
+use Rattle.refusal.proofs.Bools.{clash}
 use Rattle.table.specs.Sizes.{lineRoom}
 use Rattle.peaktable.specs.Held.{Stands}
 use Rattle.peaktable.proofs.Laws.{stands-lines, stands-written}

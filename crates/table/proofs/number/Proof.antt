@@ -1,7 +1,7 @@
 use borrow.Author.Tests.{leb-true, le-leb, lt-leb}
-use Rattle.table.proofs.Laws.{both, nonzero}
+use Rattle.refusal.proofs.Bools.{both}
+use Rattle.table.proofs.Laws.{nonzero, Counted, number-start, number-none, number-long, number-next, number-bad, number-end, digits-bound, digits-more}
 use mathlib.Core.Path.{sym, _∙_}
-use Rattle.table.proofs.Laws.{Counted, number-start, number-none, number-long, number-next, number-bad, number-end, digits-bound, digits-more}
 use Prim.Native.Nat.{_^_, _≤_, _<_, _-_}
 use native.Mathlib.Omega.{arith}
 use borrow.Author.Needs.{needs}
@@ -38,7 +38,7 @@ with-digit-requires : tie.Need-with-digit-requires Inv-loop μ-loop
 with-digit-requires c κs = let l = c .before .before .before .before in
     let s = l .before .before .before .before in
     let b = getD (s .args .field .now) (l .loop .i) 0 in
-    let e = both (leb 48 b) (leb b 57) (sym (c .before .is-digit .ensures) ∙ c .if3 .taken) in
+    let e = both (leb 48 b) (sym (c .before .is-digit .ensures) ∙ c .if3 .taken) in
     (digits-bound (l .loop .value) (l .loop .i) 7 (l .loop .inv .1) (omega arith), leb-true 48 b (e .0))
 
 returns-3 : tie.Need-returns-3 Inv-loop μ-loop
@@ -59,7 +59,7 @@ loop-again c = let l = c .before .before .before .before .before in
     let e = sym (c .before .before .is-digit .ensures) ∙ c .before .if3 .taken in
     rw (c .with-digit .ensures) (
       omega arith,
-      digits-more (l .loop .value) (l .loop .i) b (l .loop .inv .1) (leb-true b 57 (both (leb 48 b) (leb b 57) e .1)),
+      digits-more (l .loop .value) (l .loop .i) b (l .loop .inv .1) (leb-true b 57 (both (leb 48 b) e .1)),
       number-next (s .args .limit) (s .args .field .now) (l .loop .value) (l .loop .i) (l .loop .inv .2) (omega arith) e,
     )
 

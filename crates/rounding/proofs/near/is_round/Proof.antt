@@ -1,4 +1,4 @@
-use Rattle.numeric.proofs.Laws.{clash}
+use Rattle.refusal.proofs.Bools.{clash}
 use Rattle.rounding.proofs.Guess.{round-near}
 use mathlib.Core.Path.{refl}
 use mathlib.Core.Bool.{false}

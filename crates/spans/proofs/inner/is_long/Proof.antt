@@ -1,4 +1,4 @@
-use Rattle.numeric.proofs.Laws.{clash}
+use Rattle.refusal.proofs.Bools.{clash}
 use mathlib.Core.Path.{refl}
 use mathlib.Core.Bool.{false}
 use borrow.Author.Needs.{needs}

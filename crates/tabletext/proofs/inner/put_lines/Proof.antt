@@ -5,7 +5,7 @@ use native.Mathlib.Omega.{arith}
 use borrow.Author.Needs.{needs}
 use borrow.Author.Tests.{not-true, not-false}
 use lib.ListN.{length, drop}
-use Rattle.numeric.proofs.Laws.{clash}
+use Rattle.refusal.proofs.Bools.{clash}
 use Rattle.table.proofs.Lines.{lf-missing}
 use Rattle.tabletext.specs.Bytes.{Put}
 use Rattle.tabletext.proofs.Laws.{put-none}
