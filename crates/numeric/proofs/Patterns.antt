@@ -19,7 +19,7 @@ use lib.Ieee.Nearest.{div-mono}
 use lib.Ieee.Bits.{ofBits-toBits}
 use Rattle.numeric.specs.Arith.{at}
 use Rattle.numeric.specs.Numeric.{inRange, allInRange}
-use Rattle.numeric.specs.Plain.{Plain, AllFit, AllPlain}
+use Rattle.numeric.specs.Plain.{Plain, AllFit, AllPlain, LeAsPatterns, LtAsPatterns}
 use Rattle.refusal.proofs.Bools.{clash, both}
 use Rattle.numeric.proofs.Order.{lt-le, lt-irrefl, not-le, not-lt}
 
@@ -130,14 +130,14 @@ bits-strict x y p q h = elim (eq-or-lt-of-le (bits-mono x y (p .ranged) (q .rang
   | inr l ↦ l
 ]
 
-pub le-bits : (x y : Float) → Plain x → Plain y → le x y ≡ leb (toBits binary32 x) (toBits binary32 y)
+pub le-bits : LeAsPatterns
 le-bits x y p q = go (le x y) refl
   where
     go : (b : Bool) → le x y ≡ b → b ≡ leb (toBits binary32 x) (toBits binary32 y)
     go true e = sym (le-leb _ _ (bits-mono x y (p .ranged) (q .ranged) e))
     go false e = sym (lt-leb _ _ (bits-strict y x q p (not-le x y (no-nan x (p .ranged)) (no-nan y (q .ranged)) e)))
 
-pub lt-bits : (x y : Float) → Plain x → Plain y → lt x y ≡ ltb (toBits binary32 x) (toBits binary32 y)
+pub lt-bits : LtAsPatterns
 lt-bits x y p q = go (lt x y) refl
   where
     go : (b : Bool) → lt x y ≡ b → b ≡ ltb (toBits binary32 x) (toBits binary32 y)

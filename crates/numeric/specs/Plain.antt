@@ -1,11 +1,11 @@
--- Readings that are numbers with a clear sign: they order like their bit patterns (proofs/Patterns.antt).
+-- Readings that are numbers with a clear sign: they order like their bit patterns.
 use mathlib.Core.Path.{_≡_}
 use mathlib.Core.Bool.{true}
 use mathlib.Core.List.{List}
 use Prim.Native.Nat.{ℕ, _<_}
-use lib.Dec.{T}
+use lib.Dec.{T, leb, ltb}
 use lib.ListN.{length}
-use lib.Ieee.{Float, binary32, fits, toBits}
+use lib.Ieee.{Float, binary32, fits, toBits, lt, le}
 use Rattle.limits.specs.Limits.{anyNumber}
 use Rattle.numeric.specs.Arith.{at}
 use Rattle.numeric.specs.Numeric.{inRange}
@@ -28,3 +28,10 @@ pub record Plain (x : Float) : Type 0 where
 
 abbrev pub AllPlain : List Float → Type 0
 AllPlain y = (i : ℕ) → i < length y → Plain (at y i)
+
+-- two of them compare as their patterns do: `le-bits` and `lt-bits` in proofs/Patterns.antt
+abbrev pub LeAsPatterns : Type 0
+LeAsPatterns = (x y : Float) → Plain x → Plain y → le x y ≡ leb (word x) (word y)
+
+abbrev pub LtAsPatterns : Type 0
+LtAsPatterns = (x y : Float) → Plain x → Plain y → lt x y ≡ ltb (word x) (word y)

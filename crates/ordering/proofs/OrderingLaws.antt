@@ -1,21 +1,22 @@
 -- What holds of the sort: it has the places that it was given, as many as there were, and none comes before an earlier one.
 use mathlib.Core.Path.{_≡_, refl, sym, ap, _∙_}
-use mathlib.Core.Bool.{Bool, true, false, cond}
+use mathlib.Core.Bool.{Bool, true, false, cond, not}
 use mathlib.Core.List.{List, [], _∷_, List·Memᴰ, List·Memᴰ·not-nil, List·Memᴰ·cases-cons}
 use mathlib.Core.List.{List·Memᴰ·head as here, List·Memᴰ·tail as there}
 use mathlib.Core.List.{List·Permᴰ, List·Permᴰ·nil, List·Permᴰ·cons, List·Permᴰ·swap, List·Permᴰ·trans, Permᴰ·refl, Permᴰ·symm, Perm·nodup}
 use mathlib.Core.Logic.{_⊎_, inl, inr, ⊎-elim}
 use Prim.Native.Nat.{ℕ, zero, suc, _+_, _*_, _<_, _≤_}
 use native.Mathlib.Omega.{arith}
+use borrow.Author.Tests.{not-true}
 use lib.ListN.{length, getD}
-use Rattle.refusal.proofs.Bools.{clash}
+use Rattle.refusal.proofs.Bools.{clash, both}
 use Rattle.record.specs.Record.{size, idAt, peakAt, peakFrom}
 use Rattle.matching.specs.Keys.{keyLt, numbers, lexLt, firstKey, secondKey}
 use Rattle.matching.proofs.KeyLaws.{transitive, asymmetric, same-numbers}
 use Rattle.matching.specs.declared.inner.Key.{Key}
 use Rattle.ordering.specs.declared.inner.KeyRule.{KeyRule}
 use Rattle.ordering.specs.Ordering.{keyAt, inserted, sortedBy, Ascending, Within}
-use Rattle.ordering.specs.OrderingLaws.{SortPermutes, SortDistinct, SortAscends}
+use Rattle.ordering.specs.OrderingLaws.{SortPermutes, SortDistinct, SortAscends, alike, likeOnly, SortStable}
 
 -- ---- keys
 
@@ -145,6 +146,39 @@ pub sort-ascending : SortAscends
 unfolding sortedBy
 sort-ascending key [] = tt
 sort-ascending key (p ∷ ps) = insert-ascending key p (sortedBy key ps) (sort-ascending key ps)
+
+-- ---- of places whose keys are alike the earlier stays first
+
+-- a place that comes before another is not alike to a key that the other is alike to
+not-both : (k x y : Key) → keyLt y x ≡ true → alike x k ≡ true → alike y k ≡ true → ⊥
+not-both k x y h a b =
+    let c = both (not (keyLt x k)) a in
+    let d = both (not (keyLt y k)) b in
+    clash (keyLt y k) (apart y k x h (not-true (keyLt k x) (c .1))) (not-true (keyLt y k) (d .0))
+
+-- of two places of which at most one is taken, either may stand in front
+either-front : (a b : Bool) (p q : ℕ) (l m : List ℕ) → (a ≡ true → b ≡ true → ⊥) → l ≡ cond a (p ∷ m) m
+    → cond b (q ∷ l) l ≡ cond a (p ∷ cond b (q ∷ m) m) (cond b (q ∷ m) m)
+either-front true true p q l m n e = absurd (n refl refl)
+either-front true false p q l m n e = e
+either-front false true p q l m n e = ap (λ (r : List ℕ). q ∷ r) e
+either-front false false p q l m n e = e
+
+insert-like : (key : ℕ → Key) (k : Key) (p : ℕ) (qs : List ℕ) → likeOnly key k (inserted key p qs) ≡ likeOnly key k (p ∷ qs)
+unfolding inserted likeOnly
+insert-like key k p [] = refl
+insert-like key k p (q ∷ qs) = go (keyLt (key q) (key p)) refl (insert-like key k p qs)
+  where
+    go : (t : Bool) → keyLt (key q) (key p) ≡ t → likeOnly key k (inserted key p qs) ≡ likeOnly key k (p ∷ qs)
+        → likeOnly key k (cond t (q ∷ inserted key p qs) (p ∷ (q ∷ qs))) ≡ likeOnly key k (p ∷ (q ∷ qs))
+    go true e f =
+        either-front (alike (key p) k) (alike (key q) k) p q (likeOnly key k (inserted key p qs)) (likeOnly key k qs) (not-both k (key p) (key q) e) f
+    go false e f = refl
+
+pub sort-stable : SortStable
+unfolding sortedBy likeOnly
+sort-stable key k [] = refl
+sort-stable key k (p ∷ ps) = insert-like key k p (sortedBy key ps) ∙ ap (λ (l : List ℕ). cond (alike (key p) k) (p ∷ l) l) (sort-stable key k ps)
 
 -- ---- by index
 

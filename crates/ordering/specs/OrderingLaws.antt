@@ -1,6 +1,9 @@
 -- What holds of the sort, by any key.
-use mathlib.Core.List.{List, List·Permᴰ, List·Nodup}
+use mathlib.Core.Path.{_≡_}
+use mathlib.Core.Bool.{Bool, cond, not, _&&_}
+use mathlib.Core.List.{List, [], _∷_, List·Permᴰ, List·Nodup}
 use Prim.Native.Nat.{ℕ}
+use Rattle.matching.specs.Keys.{keyLt}
 use Rattle.matching.specs.declared.inner.Key.{Key}
 use Rattle.ordering.specs.Ordering.{sortedBy, Ascending}
 
@@ -15,3 +18,16 @@ SortDistinct = (key : ℕ → Key) (ps : List ℕ) → List·Nodup ps → List·
 -- none of the places comes before an earlier one: `sort-ascending`
 abbrev pub SortAscends : Type 0
 SortAscends = (key : ℕ → Key) (ps : List ℕ) → Ascending key (sortedBy key ps)
+
+-- neither of two keys comes before the other
+abbrev pub alike : Key → Key → Bool
+alike x y = not (keyLt x y) && not (keyLt y x)
+
+-- those of some places whose keys are alike to k, in their order
+unfoldable pub likeOnly : (ℕ → Key) → Key → List ℕ → List ℕ
+likeOnly key k [] = []
+likeOnly key k (p ∷ ps) = cond (alike (key p) k) (p ∷ likeOnly key k ps) (likeOnly key k ps)
+
+-- places whose keys are alike stay in the order in which they were given: `sort-stable`
+abbrev pub SortStable : Type 0
+SortStable = (key : ℕ → Key) (k : Key) (ps : List ℕ) → likeOnly key k (sortedBy key ps) ≡ likeOnly key k ps

@@ -22,7 +22,7 @@ use Rattle.apex.proofs.Candidates.{none-more}
 use Rattle.params.specs.declared.ImDetectParams.{ImDetectParams}
 use Rattle.rowsearch.specs.Qualifying.{highestReading, reaches, thatQualify, qualifying, kept}
 use Rattle.rowsearch.specs.Suppression.{keepAll}
-use Rattle.smoothrow.specs.SmoothRow.{searched, allZero}
+use Rattle.smoothrow.specs.SmoothRow.{searched, allZero, NoneOfZeros}
 
 -- ---- zeros and NaNs
 
@@ -175,7 +175,7 @@ none-kept p y z h = rw h (go (reaches (p .«min_prom») (highestReading 𝟎 z))
     go false = refl
 
 -- a row of zeros has no peak, smoothed or not: to skip it changes nothing
-pub zeros-skip : (p : ImDetectParams) (ws z : List Float) → allZero z ≡ true → kept p (searched ws z) z ≡ []
+pub zeros-skip : NoneOfZeros
 unfolding searched
 zeros-skip p ws z h = go (eqb (length ws) 0 || leb (length z) 2)
   where

@@ -29,6 +29,10 @@ unfoldable pub allZero : List Float → Bool
 allZero [] = true
 allZero (x ∷ xs) = eq x 𝟎 && allZero xs
 
+-- such a row keeps no apex, smoothed or not, so that to skip it changes nothing: `zeros-skip` in proofs/Zeros.antt
+abbrev pub NoneOfZeros : Type 0
+NoneOfZeros = (p : ImDetectParams) (ws z : List Float) → allZero z ≡ true → kept p (searched ws z) z ≡ []
+
 -- A row z that is handed in: readings in range, weights and the same divided by their sum, u; `scratch` is the length of the list for the
 -- smoothed row.
 pub record Handed (z weights u : List Float) (scratch turns bases found : ℕ) : Type 0 where
