@@ -1,3 +1,3 @@
--- The definitions that the contracts of `apex` cite, and what follows of them.
+-- The definitions that the contracts of `apex` cite, and what is proved of them.
 pub mod Apex
 pub mod Candidates

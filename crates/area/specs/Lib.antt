@@ -1,4 +1,4 @@
--- The definitions that the contracts of `area` cite, what follows of them, and worked cases.
+-- The definitions that the contracts of `area` cite, what is proved of them, and worked cases.
 pub mod Area
-pub mod Cases
 pub mod AreaLaws
+pub mod Cases

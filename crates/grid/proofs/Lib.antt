@@ -1,3 +1,3 @@
--- Laws that the proofs of `grid` share.
+-- The proofs of what specs/ states, and what the proofs of functions cite.
 pub mod Laws
 pub mod GridNumberLaws

@@ -1,4 +1,4 @@
--- Worked cases of the grid's number, by computation.
+-- Worked cases of the grid's number, by computation; they need not be read to know what is promised.
 use mathlib.Core.Path.{_≡_, refl}
 use mathlib.Core.List.{List, [], _∷_, map}
 use Prim.Native.Nat.{ℕ, _-_}

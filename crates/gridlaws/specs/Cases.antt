@@ -1,4 +1,5 @@
--- A grid of two rows `0 4 0` and `0 8 0` that is accepted, worked out: one peak in each.
+-- A worked case, which need not be read to know what is promised: a grid of two rows `0 4 0` and `0 8 0` that is accepted, with one peak
+-- in each.
 use mathlib.Core.Path.{_≡_, refl}
 use mathlib.Core.List.{List, [], _∷_, map}
 use Prim.Native.Nat.{ℕ, _*_}

@@ -1,6 +1,6 @@
--- The definitions that the contracts of `grouping` cite, what holds of them, and worked cases.
+-- The definitions that the contracts of `grouping` cite, what is proved of them, and worked cases.
 pub mod Cases
-pub mod Grouping
-pub mod Walk
-pub mod GroupingLaws
 pub mod GroupedPeaks
+pub mod Grouping
+pub mod GroupingLaws
+pub mod Walk

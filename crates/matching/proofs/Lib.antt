@@ -1,3 +1,3 @@
--- The laws that the proofs of `matching` cite.
+-- The proofs of what specs/ states, and what the proofs of functions cite.
 pub mod Laws
 pub mod KeyLaws

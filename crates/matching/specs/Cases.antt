@@ -1,4 +1,4 @@
--- Worked cases, each by computation.
+-- Worked cases, each by computation; they need not be read to know what is promised.
 use mathlib.Core.Path.{_≡_, refl}
 use mathlib.Core.Bool.{true, false}
 use mathlib.Core.List.{[], _∷_}

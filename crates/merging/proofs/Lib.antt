@@ -1,4 +1,4 @@
--- What the proofs of `merging` share.
+-- The proofs of what specs/ states, and what the proofs of functions cite.
 pub mod Laws
 pub mod MergingLaws
 pub mod MergingWeights

@@ -1,4 +1,4 @@
--- The definitions that the contracts of `ordering` cite, what holds of them, and worked cases.
+-- The definitions that the contracts of `ordering` cite, what is proved of them, and worked cases.
 pub mod Ordering
-pub mod Cases
 pub mod OrderingLaws
+pub mod Cases

@@ -1,3 +1,3 @@
--- What the proofs of `record` and of the crates above it cite.
+-- The proofs of what specs/ states, and what the proofs of functions cite.
 pub mod Laws
 pub mod RoundTrip

@@ -1,4 +1,4 @@
--- What the proofs of other crates cite.
+-- The proofs of what specs/ states, and what the proofs of functions cite.
 pub mod Walk
 pub mod Bools
 pub mod RefusalLaws

@@ -1,5 +1,5 @@
--- Numbers that refuse an input, and what follows of them.
+-- Numbers that refuse an input, and what is proved of them.
 pub mod Refusal
+pub mod RefusalLaws
 pub mod Answers
 pub mod AnswersLaws
-pub mod RefusalLaws

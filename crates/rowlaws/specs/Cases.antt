@@ -1,4 +1,5 @@
--- Worked cases, by computation: a row that is accepted, with one peak, and what reversed TOF bounds do.
+-- Worked cases, by computation; they need not be read to know what is promised: a row that is accepted, with one peak, and what
+-- reversed TOF bounds do.
 use mathlib.Core.Path.{_≡_, refl}
 use mathlib.Core.Bool.{true, false}
 use mathlib.Core.List.{List, [], _∷_, map}

@@ -1,5 +1,6 @@
 -- No qualifying apex of a row goes missing unexplained: it is kept, and so has a record (RowRecords.antt), or it gives way to another
--- qualifying one that is nearer than the least distance and no lower, and from which steps to later and higher ones lead to a kept one.
+-- qualifying one that is nearer than the least distance and no lower, and from which steps to later and higher ones lead to a kept one. Proved in
+-- proofs/RowAccount.antt.
 use mathlib.Core.List.{List}
 use lib.Ieee.{Float}
 use Rattle.params.specs.declared.ImDetectParams.{ImDetectParams}

@@ -1,4 +1,4 @@
--- What the proofs of `rowsearch` cite.
+-- The proofs of what specs/ states, and what the proofs of functions cite.
 pub mod Laws
 pub mod Account
 pub mod QualifyingLaws

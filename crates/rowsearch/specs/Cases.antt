@@ -1,5 +1,5 @@
--- Worked cases, by computation: the smoothed row is the raw one, and floor, least width and least distance are 0 unless the
--- case says otherwise.
+-- Worked cases, by computation; they need not be read to know what is promised. The smoothed row is the raw one, and floor, least
+-- width and least distance are 0 unless the case says otherwise.
 use mathlib.Core.Path.{_≡_, refl}
 use mathlib.Core.List.{List, [], _∷_, map}
 use Prim.Native.Nat.{ℕ}

@@ -1,4 +1,4 @@
--- The definitions that the contracts of `stitch` cite, what holds of them, and worked cases.
+-- The definitions that the contracts of `stitch` cite, what is proved of them, and worked cases.
 pub mod Cases
 pub mod Stitching
 pub mod StitchingLaws

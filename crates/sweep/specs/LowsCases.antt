@@ -1,4 +1,4 @@
--- Lows of a row of eight apexes, among them equal ones, worked out.
+-- A worked case, which need not be read to know what is promised: lows of a row of eight apexes, among them equal ones.
 use mathlib.Core.Path.{_≡_, refl}
 use mathlib.Core.List.{[], _∷_}
 use Prim.Native.Nat.{ℕ}

@@ -1,4 +1,4 @@
--- Laws that the proofs of this crate share.
+-- The proofs of what specs/ states, and what the proofs of functions cite.
 pub mod Laws
 pub mod Buffers
 pub mod Readings

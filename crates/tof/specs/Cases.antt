@@ -1,4 +1,4 @@
--- Worked cases, by computation.
+-- Worked cases, by computation; they need not be read to know what is promised.
 use mathlib.Core.Path.{_≡_, refl}
 use mathlib.Core.List.{[], _∷_}
 use Prim.Native.Nat.{ℕ}

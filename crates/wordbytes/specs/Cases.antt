@@ -1,4 +1,4 @@
--- A worked case, each way, by computation.
+-- A worked case, each way, by computation; it need not be read to know what is promised.
 use mathlib.Core.Path.{_≡_, refl}
 use mathlib.Core.List.{[], _∷_}
 use Rattle.wordbytes.specs.Bytes.{wordAt, wordsTo, wordsOf, bytesOf}

@@ -1,4 +1,4 @@
--- The definitions that the contracts of `wordbytes` cite, what follows of them, and worked cases.
+-- The definitions that the contracts of `wordbytes` cite, what is proved of them, and worked cases.
 pub mod Bytes
-pub mod Cases
 pub mod BytesLaws
+pub mod Cases
