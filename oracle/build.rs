@@ -21,10 +21,8 @@ fn main() {
     println!("cargo:rerun-if-changed=build.rs");
     let archives = here.join("../target/staticlib");
     println!("cargo:rustc-link-search=native={}", archives.display());
-    for name in ["probe", "probe_row"] {
-        println!("cargo:rustc-link-lib=static={name}");
-        println!("cargo:rerun-if-changed={}", archives.join(format!("lib{name}.a")).display());
-    }
+    println!("cargo:rustc-link-lib=static=probe");
+    println!("cargo:rerun-if-changed={}", archives.join("libprobe.a").display());
 }
 
 fn module(path: &Path, name: &str) -> String {

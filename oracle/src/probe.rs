@@ -15,10 +15,7 @@ extern "C" {
     fn probe_quad_subsample(y0: f32, y1: f32, y2: f32) -> f32;
     fn probe_area(y: *const f32, n: usize, x0: f32, x1: f32) -> u64;
     fn probe_is_candidate(y: *const f32, n: usize, i: usize) -> bool;
-    fn probe_prominence(y: *const f32, n: usize, i: usize) -> f32;
-    fn probe_half_height(y: *const f32, n: usize, i: usize) -> f32;
-    fn probe_left_crossing(y: *const f32, n: usize, h: f32, i: usize) -> f32;
-    fn probe_right_crossing(y: *const f32, n: usize, h: f32, i: usize) -> f32;
+    fn probe_apex(function: u32, y: *const f32, n: usize, i: usize) -> f32;
     fn probe_move(list: *const u32, n: usize, k: usize, out: *mut u32, m: usize, j: usize) -> bool;
     fn probe_sound(list: *const u32, n: usize, k: usize) -> u32;
 }
@@ -62,19 +59,13 @@ pub fn is_candidate(y: &[f32], i: usize) -> bool {
 }
 
 pub fn prominence(y: &[f32], i: usize) -> f32 {
-    unsafe { probe_prominence(y.as_ptr(), y.len(), i) }
+    unsafe { probe_apex(19, y.as_ptr(), y.len(), i) }
 }
 
-pub fn half_height(y: &[f32], i: usize) -> f32 {
-    unsafe { probe_half_height(y.as_ptr(), y.len(), i) }
-}
-
-pub fn left_crossing(y: &[f32], h: f32, i: usize) -> f32 {
-    unsafe { probe_left_crossing(y.as_ptr(), y.len(), h, i) }
-}
-
-pub fn right_crossing(y: &[f32], h: f32, i: usize) -> f32 {
-    unsafe { probe_right_crossing(y.as_ptr(), y.len(), h, i) }
+/// Where the row crosses the half height of i, to the left and to the right.
+pub fn crossings(y: &[f32], i: usize) -> (f32, f32) {
+    let crossing = |function| unsafe { probe_apex(function, y.as_ptr(), y.len(), i) };
+    (crossing(20), crossing(21))
 }
 
 /// Reads the record at place k of a list and writes it at place j of another.

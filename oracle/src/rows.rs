@@ -25,10 +25,10 @@ pub fn compare(t: &mut Tally, count: u64) {
         t.same("no more than (n - 1) / 2 candidates", &shown, peaks.len() <= most, true);
         for p in &peaks {
             let (i, input) = (p.scan, (&shown, p.scan));
-            let half = probe::half_height(&y, i);
             t.same("prominence", &input, bits(probe::prominence(&y, i)), bits(p.prominence));
-            t.same("left crossing", &input, bits(probe::left_crossing(&y, half, i)), bits(p.left_x));
-            t.same("right crossing", &input, bits(probe::right_crossing(&y, half, i)), bits(p.right_x));
+            let (left, right) = probe::crossings(&y, i);
+            t.same("left crossing", &input, bits(left), bits(p.left_x));
+            t.same("right crossing", &input, bits(right), bits(p.right_x));
         }
     }
 }

@@ -1,16 +1,25 @@
-// C entries over the leaves, for the comparison with the Rust (oracle/). They are no part of what is sold.
+// C entries over inner steps, for the comparison with the Rust (oracle/) and the replay of stored answers. They are no part of
+// what is sold.
+use params::FrameBounds;
+use params::ImDetectParams;
+use params::RowPlace;
+use params::WindowGroup;
 use record::ImPeak1D;
 ghost use mathlib.Core.Path.{_≡_};
 ghost use mathlib.Core.Bool.{cond, _&&_};
+ghost use lib.ListN.{length};
 ghost use lib.IntN.{pos};
 ghost use lib.Ieee.{binary32, ofInt, ofBits, toBits};
 ghost use Rattle.numeric.specs.Numeric.{maxF, minF, absF, clampF, castF, lerpF, quadF};
 ghost use Rattle.rounding.specs.Rounding.{floorF, ceilF, roundF};
-ghost use Rattle.apex.specs.Apex.{prominence, halfHeight, leftCrossing, rightCrossing};
 ghost use Rattle.refusal.specs.Answers.{answerBy};
 ghost use Rattle.area.specs.Area.{areaF, areaNumber};
 ghost use Rattle.record.specs.Record.{peakAt, withPeak};
-ghost use Rattle.probe.specs.Probe.{areaWord, candidateAt, inside, hasPlace, soundWord};
+ghost use Rattle.smoothing.specs.Smoothing.{smoothNumber};
+ghost use Rattle.rowsearch.specs.Qualifying.{kept};
+ghost use Rattle.row.specs.RowNumber.{rowNumber};
+ghost use Rattle.probe.specs.Probe.{areaWord, candidateAt, apexF, hasPlace, soundWord};
+ghost use Rattle.probe.specs.Probe.{groupOf, placeOf, boundsOf, paramsOf, answerWord};
 
 #[no_mangle]
 pub extern "C" fn probe_max(a: f32, b: f32) -> f32
@@ -131,55 +140,23 @@ pub extern "C" fn probe_is_candidate(y: &[f32], i: usize) -> bool
     false
 }
 
-// 0 past the row, here and below.
+// Of an index: 19 its prominence, 20 the left crossing of its half height, any other number the right crossing; 0 past the row.
 #[no_mangle]
-pub extern "C" fn probe_prominence(y: &[f32], i: usize) -> f32
-    ensures { λ r. ⌜ r ≡ inside (now (y .entry)) i (prominence (now (y .entry)) i) ⌝ }
+pub extern "C" fn probe_apex(function: u32, y: &[f32], i: usize) -> f32
+    ensures { λ r. ⌜ r ≡ apexF function (now (y .entry)) i ⌝ }
 {
     if i < y.len() {
         if y.len() > limits::EXACT_INDEX {
             return 0.0;
         }
-        return apex::inner::rise_of(y, apex::inner::ground_of(y), i).prominence;
-    }
-    0.0
-}
-
-#[no_mangle]
-pub extern "C" fn probe_half_height(y: &[f32], i: usize) -> f32
-    ensures { λ r. ⌜ r ≡ inside (now (y .entry)) i (halfHeight (now (y .entry)) i) ⌝ }
-{
-    if i < y.len() {
-        if y.len() > limits::EXACT_INDEX {
-            return 0.0;
+        let rise = apex::inner::rise_of(y, apex::inner::ground_of(y), i);
+        if function == 19 {
+            return rise.prominence;
         }
-        return apex::inner::rise_of(y, apex::inner::ground_of(y), i).half;
-    }
-    0.0
-}
-
-#[no_mangle]
-pub extern "C" fn probe_left_crossing(y: &[f32], h: f32, i: usize) -> f32
-    ensures { λ r. ⌜ r ≡ inside (now (y .entry)) i (leftCrossing (now (y .entry)) h i) ⌝ }
-{
-    if i < y.len() {
-        if y.len() > limits::EXACT_INDEX {
-            return 0.0;
+        if function == 20 {
+            return apex::inner::left_crossing(y, rise.half, i);
         }
-        return apex::inner::left_crossing(y, h, i);
-    }
-    0.0
-}
-
-#[no_mangle]
-pub extern "C" fn probe_right_crossing(y: &[f32], h: f32, i: usize) -> f32
-    ensures { λ r. ⌜ r ≡ inside (now (y .entry)) i (rightCrossing (now (y .entry)) h i) ⌝ }
-{
-    if i < y.len() {
-        if y.len() > limits::EXACT_INDEX {
-            return 0.0;
-        }
-        return apex::inner::right_crossing(y, h, i);
+        return apex::inner::right_crossing(y, rise.half, i);
     }
     0.0
 }
@@ -212,4 +189,75 @@ pub extern "C" fn probe_sound(list: &[u32], k: usize) -> u32
         return 0;
     }
     2
+}
+
+pub fn group_of(grouped: bool, window_group: u32) -> WindowGroup
+    ensures { λ r. ⌜ r ≡ groupOf grouped «window_group» ⌝ }
+{
+    if grouped {
+        WindowGroup::Group(window_group)
+    } else {
+        WindowGroup::Missing
+    }
+}
+
+// The number, 0 for none.
+#[no_mangle]
+pub extern "C" fn probe_smooth(v: &mut [f32], weights: &[f32], scratch: &mut [f32]) -> u32
+    ensures { λ r. ⌜ r ≡ smoothNumber (now (v .entry)) (now (weights .entry)) (length (now (scratch .entry))) ⌝ }
+{
+    match smoothing::smooth_vector_gaussian(v, weights, scratch) {
+        smoothing::SmoothAnswer::Smoothed => 0,
+        smoothing::SmoothAnswer::Refused(n) => n,
+    }
+}
+
+// 64 times the count of peaks, and the number.
+#[no_mangle]
+pub extern "C" fn probe_find_im_peaks_row(
+    y: &[f32],
+    z: &[f32],
+    tof_row: u32,
+    tof_center: u32,
+    tof_lo: u32,
+    tof_hi: u32,
+    rt_lo: u32,
+    rt_hi: u32,
+    frame_id_lo: u32,
+    frame_id_hi: u32,
+    grouped: bool,
+    window_group: u32,
+    mobility: &[f32],
+    min_prom: f32,
+    min_distance: u32,
+    min_width: u32,
+    axis: &[u32],
+    first: u32,
+    out: &mut [u32],
+) -> u64
+    ensures { λ r. ⌜ r ≡ answerWord (answerBy (rowNumber (now (y .entry)) (now (z .entry)) (placeOf «tof_row» «tof_center» «tof_lo» «tof_hi») (boundsOf «rt_lo» «rt_hi» «frame_id_lo» «frame_id_hi» (groupOf grouped «window_group»)) (now (mobility .entry)) (paramsOf «min_prom» «min_distance» «min_width») (now (axis .entry)) first (length (now (out .entry)))) (length (kept (paramsOf «min_prom» «min_distance» «min_width») (now (y .entry)) (now (z .entry))))) ⌝ }
+{
+    let place = RowPlace {
+        tof_row,
+        tof_center,
+        tof_lo,
+        tof_hi,
+    };
+    let group = group_of(grouped, window_group);
+    let bounds = FrameBounds {
+        rt_lo,
+        rt_hi,
+        frame_id_lo,
+        frame_id_hi,
+        window_group: group,
+    };
+    let p = ImDetectParams {
+        min_prom,
+        min_distance_scans: min_distance,
+        min_width_scans: min_width,
+    };
+    match row::find_im_peaks_row(y, z, place, bounds, mobility, p, axis, first, out) {
+        row::RowAnswer::Peaks(n) => (n % 4294967296) as u64 * 64,
+        row::RowAnswer::Refused(n) => n as u64,
+    }
 }

@@ -3,8 +3,8 @@ use Rattle.refusal.specs.Answers.{Says}
 use Rattle.smoothing.specs.Answer.{smoothSays}
 use mathlib.Core.Path.{sym, _∙_, ap}
 use borrow.Author.Needs.{needs}
-use Rattle.probe_row.proofs.probe_smooth.Statement.{statement}
-use Rattle.probe_row.proofs.probe_smooth.Tie as tie
+use Rattle.probe.proofs.probe_smooth.Statement.{statement}
+use Rattle.probe.proofs.probe_smooth.Tie as tie
 
 abbrev number : Says (Unit {0}) → ℕ
 number s = s .number

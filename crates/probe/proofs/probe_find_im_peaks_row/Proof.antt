@@ -1,9 +1,9 @@
 use Rattle.row.specs.RowNumber.{rowSays}
-use Rattle.probe_row.specs.ProbeRow.{answerWord}
+use Rattle.probe.specs.Probe.{answerWord}
 use mathlib.Core.Path.{sym, _∙_, ap}
 use borrow.Author.Needs.{needs}
-use Rattle.probe_row.proofs.probe_find_im_peaks_row.Statement.{statement}
-use Rattle.probe_row.proofs.probe_find_im_peaks_row.Tie as tie
+use Rattle.probe.proofs.probe_find_im_peaks_row.Statement.{statement}
+use Rattle.probe.proofs.probe_find_im_peaks_row.Tie as tie
 
 group-of-requires : tie.Need-group-of-requires
 group-of-requires c κs = search needs

@@ -1,5 +1,5 @@
-use Rattle.probe_row.proofs.group_of.Statement.{statement}
-use Rattle.probe_row.proofs.group_of.Tie as tie
+use Rattle.probe.proofs.group_of.Statement.{statement}
+use Rattle.probe.proofs.group_of.Tie as tie
 
 returns : tie.Need-returns
 returns c = rw (c .if1 .taken)
