@@ -1,136 +1,133 @@
-// What the lines of lists and records have in common: lengths, lists and parameters from a place of a line on, and the
-// comparison of an answer with the end of a line. Past the end of a line every word is 0.
-use params::FrameBounds;
-use params::ImDetectParams;
-use params::WindowGroup;
-use record::ImPeak1D;
-use tof::TofScale;
+// Parts of a line, and its comparison with an answer. Past the end of a line every word is 0.
 ghost use Prim.Native.Nat.{_≤_};
 
-// A length that a line gives, held to the room for it.
-pub(crate) fn held(words: &[u32], i: usize, room: u32) -> usize
-    ensures { λ r. ⌜ r ≤ room ⌝ }
-{
-    let n = super::word(words, i);
-    if n < room { n as usize } else { room as usize }
+// The words that a line may have.
+pub(crate) const ROOM: usize = 4096;
+
+// An answer: the place in the line where it starts, its first words and how many there are, and how many more stand in the lent
+// list or in the smoothed row. The scratch may have changed in front of a place.
+pub(crate) struct Answer {
+    pub at: usize,
+    pub head: usize,
+    pub a: u32,
+    pub b: u32,
+    pub c: u32,
+    pub d: u32,
+    pub e: u32,
+    pub rest: usize,
+    pub scratched: usize,
 }
 
-// Floats and words from a place of a line on.
-pub(crate) fn floats(words: &[u32], at: usize, out: &mut [f32])
-    requires { ⌜ at ≤ 100000 ⌝ }
-{
-    for i in 0..out.len() {
-        out[i] = numeric::float_of(super::word(words, at + i));
+// An answer of up to three words.
+pub(crate) fn short(at: usize, head: usize, a: u32, b: u32, c: u32) -> Answer {
+    Answer {
+        at,
+        head,
+        a,
+        b,
+        c,
+        d: 0,
+        e: 0,
+        rest: 0,
+        scratched: 0,
     }
 }
 
-pub(crate) fn plain(words: &[u32], at: usize, out: &mut [u32])
-    requires { ⌜ at ≤ 100000 ⌝ }
-{
-    for i in 0..out.len() {
-        out[i] = super::word(words, at + i);
-    }
+pub(crate) fn word(words: &[u32], i: usize) -> u32 {
+    if i < words.len() { words[i] } else { 0 }
 }
 
-// A window group, frame bounds, parameters and a TOF scale from a place of a line on.
-fn group_of(words: &[u32], at: usize) -> WindowGroup
-    requires { ⌜ at ≤ 1000 ⌝ }
+// The end of a list that starts at a place and whose length is word i; past every line where the line is too short.
+pub(crate) fn after(words: &[u32], i: usize, at: usize) -> usize
+    ensures { λ r. ⌜ r ≤ 8192 ⌝ }
 {
-    if super::word(words, at) == 0 {
-        WindowGroup::Missing
-    } else {
-        WindowGroup::Group(super::word(words, at + 1))
+    let n = word(words, i);
+    if at <= ROOM {
+        if n <= 4096 {
+            return at + n as usize;
+        }
     }
+    8192
 }
 
-pub(crate) fn bounds_of(words: &[u32], at: usize) -> FrameBounds
-    requires { ⌜ at ≤ 100 ⌝ }
-{
-    let group = group_of(words, at + 4);
-    FrameBounds {
-        rt_lo: super::word(words, at),
-        rt_hi: super::word(words, at + 1),
-        frame_id_lo: super::word(words, at + 2),
-        frame_id_hi: super::word(words, at + 3),
-        window_group: group,
+// The list between two places, empty where there is none.
+pub(crate) fn plain(list: &[u32], from: usize, to: usize) -> &[u32] {
+    if to <= list.len() {
+        if from <= to {
+            return &list[from..to];
+        }
     }
+    &list[..0]
 }
 
-pub(crate) fn params_of(words: &[u32], at: usize) -> ImDetectParams
-    requires { ⌜ at ≤ 100 ⌝ }
-{
-    ImDetectParams {
-        min_prom: numeric::float_of(super::word(words, at)),
-        min_distance_scans: super::word(words, at + 1),
-        min_width_scans: super::word(words, at + 2),
+pub(crate) fn floats(list: &[f32], from: usize, to: usize) -> &[f32] {
+    if to <= list.len() {
+        if from <= to {
+            return &list[from..to];
+        }
     }
+    &list[..0]
 }
 
-pub(crate) fn scale_of(words: &[u32], at: usize) -> TofScale
-    requires { ⌜ at ≤ 100 ⌝ }
-{
-    TofScale {
-        tof_min: super::word(words, at),
-        tof_max: super::word(words, at + 1),
-        tof_step: super::word(words, at + 2),
-        num_bins: super::word(words, at + 3),
+// The front of a lent list, all of it where it is shorter.
+pub(crate) fn front(list: &mut [u32], n: usize) -> &mut [u32] {
+    if n <= list.len() {
+        return &mut list[..n];
     }
+    list
 }
 
-// Whether a list equals the words from a place of a line on, floats those to its end.
-fn same(words: &[u32], at: usize, list: &[u32]) -> bool
-    requires { ⌜ at ≤ 100000 ⌝ }
-{
+pub(crate) fn front_floats(list: &mut [f32], n: usize) -> &mut [f32] {
+    if n <= list.len() {
+        return &mut list[..n];
+    }
+    list
+}
+
+// Words as floats, 0.0 past them.
+pub(crate) fn spread(words: &[u32]) -> [f32; ROOM] {
+    let mut f = [0f32; ROOM];
+    for i in 0..ROOM {
+        f[i] = numeric::float_of(word(words, i));
+    }
+    f
+}
+
+// Whether words are those of a list, or bit patterns of floats where the list is all 0, and 0 past them; and whether scratch has
+// 7.0 from a place on.
+pub(crate) fn same(
+    words: &[u32],
+    list: &[u32; ROOM],
+    v: &[f32; ROOM],
+    scratch: &[f32; ROOM],
+    from: usize,
+) -> bool {
     let mut all = true;
-    for i in 0..list.len() {
-        all = all & (list[i] == super::word(words, at + i));
+    for i in 0..ROOM {
+        all = all
+            & (word(words, i) == list[i] | numeric::word_of(v[i]))
+            & ((scratch[i] == 7.0) | (i < from));
     }
     all
 }
 
-pub(crate) fn same_floats(words: &[u32], at: usize, list: &[f32]) -> bool
-    requires { ⌜ at ≤ 100000 ⌝ }
-{
-    let mut all = words.len() == at + list.len();
-    for i in 0..list.len() {
-        all = all & (numeric::word_of(list[i]) == super::word(words, at + i));
-    }
-    all
-}
-
-fn zeros(list: &[u32]) -> bool {
-    let mut all = true;
-    for i in 0..list.len() {
-        all = all & (list[i] == 0);
-    }
-    all
-}
-
-// Whether a line ends with the words of the lent list's peaks, from a place on, and the list has zeros past them.
-fn same_list(words: &[u32], at: usize, count: usize, out: &[u32]) -> bool
-    requires { ⌜ (at ≤ 100000) × (count ≤ 4096) ⌝ }
-{
-    let k = count * ImPeak1D::WORDS;
-    if k <= out.len() {
-        return (words.len() == at + k) & same(words, at, &out[..k]) & zeros(&out[k..]);
-    }
-    false
-}
-
-// Whether an answer, as 64 times the count and the number, and a list are those that a line gives from a place on.
-pub(crate) fn judged(words: &[u32], at: usize, answer: usize, out: &[u32]) -> bool {
-    if at > words.len() {
-        return false;
-    }
-    let end = &words[at..];
-    let number = super::word(end, 0);
-    let count = super::word(end, 1);
-    if number > 63 {
-        return false;
-    }
-    if count > 4095 {
-        return false;
-    }
-    let n = count as usize;
-    (answer == n * 64 + number as usize) & same_list(end, 2, n, out)
+// Whether a line ends with an answer.
+pub(crate) fn judged(
+    words: &[u32],
+    a: Answer,
+    list: &[u32; ROOM],
+    v: &[f32; ROOM],
+    scratch: &[f32; ROOM],
+) -> bool {
+    let end = plain(words, a.at, words.len());
+    let head = plain(end, 0, a.head);
+    let rest = plain(end, a.head, end.len());
+    (head.len() == a.head)
+        & (rest.len() == a.rest)
+        & (word(head, 0) == a.a)
+        & (word(head, 1) == a.b)
+        & (word(head, 2) == a.c)
+        & (word(head, 3) == a.d)
+        & (word(head, 4) == a.e)
+        & same(rest, list, v, scratch, a.scratched)
 }

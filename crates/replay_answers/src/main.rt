@@ -1,9 +1,8 @@
 // Replays stored answers of the Rust. Standard input has a line for each: the number of a function, its arguments and the
 // answer, as hexadecimal words with one space between. A line that starts with '#' is passed over.
-mod grids;
 mod leaves;
+mod levels;
 mod lines;
-mod rows;
 mod scales;
 
 ghost use Prim.Native.Nat.{_≤_, _<_};
@@ -15,29 +14,34 @@ struct Tally {
     differ: u64,
 }
 
-// A word of a line, 0 past its end.
-pub(crate) fn word(words: &[u32], i: usize) -> u32 {
-    if i < words.len() { words[i] } else { 0 }
+// The port's answer to a line; the floats of the line and the row to smooth are handed in.
+fn answer(
+    w: &[u32],
+    f: &[f32],
+    v: &mut [f32],
+    out: &mut [u32],
+    scratch: &mut [f32],
+) -> lines::Answer {
+    let function = lines::word(w, 0);
+    if function < 32 {
+        return leaves::leaf(w, f);
+    }
+    match function {
+        32 => levels::row(w, f, out),
+        33 => levels::smoothing(w, f, v, scratch),
+        40 => scales::build(w),
+        48 => levels::grid(w, f, out, scratch),
+        _ => scales::scale(w),
+    }
 }
 
 fn agrees(words: &[u32]) -> bool {
-    let function = word(words, 0);
-    if function == 32 {
-        return rows::row_line(words);
-    }
-    if function == 33 {
-        return rows::smoothing_line(words);
-    }
-    if function == 40 {
-        return scales::build_line(words);
-    }
-    if 41 <= function && function <= 45 {
-        return scales::scale_line(words);
-    }
-    if function == 48 {
-        return grids::grid_line(words);
-    }
-    leaves::agrees(words)
+    let f = lines::spread(words);
+    let mut v = lines::spread(levels::row_to_smooth(words));
+    let mut out = [0u32; lines::ROOM];
+    let mut scratch = [7f32; lines::ROOM];
+    let a = answer(words, &f, &mut v, &mut out, &mut scratch);
+    lines::judged(words, a, &out, &v, &scratch)
 }
 
 // Counts a line that has ended, if it has words.
@@ -79,7 +83,7 @@ fn feed_all(line: &mut [u32], s: State, bytes: &[u8]) -> State
 }
 
 fn main() {
-    let mut line = [0u32; 4096];
+    let mut line = [0u32; lines::ROOM];
     let mut s = State {
         reading: hexlines::start(),
         tally: Tally {

@@ -8,132 +8,69 @@
 //  43, center: a bin; then kind, centre and 0.
 //  44, center_at: a place between bins; then kind, centre and 0.
 //  45, tof_bounds_for_row: a bin; then kind, low and high edge.
-use super::lines;
+use super::lines::Answer;
+use super::lines::after;
+use super::lines::plain;
+use super::lines::short;
+use super::lines::word;
 use tof::TofScale;
-ghost use Prim.Native.Nat.{_≤_};
 
-// An answer's kind and its values.
-struct Answer {
-    kind: u32,
-    a: u32,
-    b: u32,
-}
-
-fn worked(a: u32, b: u32) -> Answer {
-    Answer { kind: 0, a, b }
-}
-
-fn nothing() -> Answer {
-    Answer {
-        kind: 1,
-        a: 0,
-        b: 0,
-    }
-}
-
-fn refused(number: u32) -> Answer {
-    Answer {
-        kind: 2,
-        a: number,
-        b: 0,
-    }
-}
-
-// Whether a line has an answer's words from a place on.
-fn same_answer(words: &[u32], at: usize, r: Answer) -> bool
-    requires { ⌜ at ≤ 1000 ⌝ }
-{
-    (super::word(words, at) == r.kind)
-        & (super::word(words, at + 1) == r.a)
-        & (super::word(words, at + 2) == r.b)
-}
-
-// The answer of a built scale, and the scale's last two words.
-struct Built {
-    answer: Answer,
-    step: u32,
-    bins: u32,
-}
-
-fn build(tofs: &[u32], step: u32) -> Built {
-    match TofScale::build_from_frames(tofs, step) {
-        tof::BuildAnswer::Scale(s) => Built {
-            answer: worked(s.tof_min, s.tof_max),
-            step: s.tof_step,
-            bins: s.num_bins,
+pub(crate) fn build(w: &[u32]) -> Answer {
+    let at = after(w, 2, 3);
+    match TofScale::build_from_frames(plain(w, 3, at), word(w, 1)) {
+        tof::BuildAnswer::Scale(s) => Answer {
+            at,
+            head: 5,
+            a: 0,
+            b: s.tof_min,
+            c: s.tof_max,
+            d: s.tof_step,
+            e: s.num_bins,
+            rest: 0,
+            scratched: 0,
         },
-        tof::BuildAnswer::NoScale => Built {
-            answer: nothing(),
-            step: 0,
-            bins: 0,
-        },
-        tof::BuildAnswer::Refused(n) => Built {
-            answer: refused(n),
-            step: 0,
-            bins: 0,
-        },
-    }
-}
-
-// Whether the scale of a line's TOF values is the answer at its end.
-pub(crate) fn build_line(words: &[u32]) -> bool {
-    let n = lines::held(words, 2, 512);
-    let mut tofs = [0u32; 512];
-    lines::plain(words, 3, &mut tofs);
-    let r = build(&tofs[..n], super::word(words, 1));
-    (words.len() == n + 8)
-        & same_answer(words, n + 3, r.answer)
-        & (super::word(words, n + 6) == r.step)
-        & (super::word(words, n + 7) == r.bins)
-}
-
-fn bin(scale: TofScale, t: u32) -> Answer {
-    match scale.index_of_tof(t) {
-        tof::BinAnswer::Bin(i) => worked(i, 0),
-        tof::BinAnswer::NoBin => nothing(),
-        tof::BinAnswer::Refused(n) => refused(n),
-    }
-}
-
-fn range(scale: TofScale, a: u32, b: u32) -> Answer {
-    match scale.index_range_for_tof_window(a, b) {
-        tof::RangeAnswer::Range(lo, hi) => worked(lo, hi),
-        tof::RangeAnswer::Refused(n) => refused(n),
+        tof::BuildAnswer::NoScale => short(at, 5, 1, 0, 0),
+        tof::BuildAnswer::Refused(n) => short(at, 5, 2, n, 0),
     }
 }
 
 fn center(r: tof::CenterAnswer) -> Answer {
     match r {
-        tof::CenterAnswer::Center(x) => worked(numeric::word_of(x), 0),
-        tof::CenterAnswer::Refused(n) => refused(n),
+        tof::CenterAnswer::Center(x) => short(6, 3, 0, numeric::word_of(x), 0),
+        tof::CenterAnswer::Refused(n) => short(6, 3, 2, n, 0),
     }
 }
 
-fn edges(scale: TofScale, i: u32) -> Answer {
-    match scale.tof_bounds_for_row(i) {
-        tof::BoundsAnswer::Bounds(lo, hi) => worked(numeric::word_of(lo), numeric::word_of(hi)),
-        tof::BoundsAnswer::Refused(n) => refused(n),
+pub(crate) fn scale(w: &[u32]) -> Answer {
+    let s = TofScale {
+        tof_min: word(w, 1),
+        tof_max: word(w, 2),
+        tof_step: word(w, 3),
+        num_bins: word(w, 4),
+    };
+    let x = word(w, 5);
+    match word(w, 0) {
+        41 => match s.index_of_tof(x) {
+            tof::BinAnswer::Bin(i) => short(6, 3, 0, i, 0),
+            tof::BinAnswer::NoBin => short(6, 3, 1, 0, 0),
+            tof::BinAnswer::Refused(n) => short(6, 3, 2, n, 0),
+        },
+        42 => match s.index_range_for_tof_window(x, word(w, 6)) {
+            tof::RangeAnswer::Range(lo, hi) => short(7, 3, 0, lo, hi),
+            tof::RangeAnswer::Refused(n) => short(7, 3, 2, n, 0),
+        },
+        43 => center(s.center(x)),
+        44 => center(s.center_at(numeric::float_of(x))),
+        45 => match s.tof_bounds_for_row(x) {
+            tof::BoundsAnswer::Bounds(lo, hi) => short(
+                6,
+                3,
+                0,
+                numeric::word_of(lo),
+                numeric::word_of(hi),
+            ),
+            tof::BoundsAnswer::Refused(n) => short(6, 3, 2, n, 0),
+        },
+        _ => short(0, 0, 0, 0, 0),
     }
-}
-
-// The answer of a function of one value.
-fn one_value(function: u32, scale: TofScale, x: u32) -> Answer {
-    match function {
-        41 => bin(scale, x),
-        43 => center(scale.center(x)),
-        44 => center(scale.center_at(numeric::float_of(x))),
-        _ => edges(scale, x),
-    }
-}
-
-// Whether a scale gives the answer at the end of a line.
-pub(crate) fn scale_line(words: &[u32]) -> bool {
-    let function = super::word(words, 0);
-    let scale = lines::scale_of(words, 1);
-    let x = super::word(words, 5);
-    if function == 42 {
-        let r = range(scale, x, super::word(words, 6));
-        return (words.len() == 10) & same_answer(words, 7, r);
-    }
-    (words.len() == 9) & same_answer(words, 6, one_value(function, scale, x))
 }
