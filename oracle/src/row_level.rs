@@ -320,7 +320,7 @@ fn weighted_means(v: &[f32], weights: &[f32]) -> Vec<f32> {
 }
 
 /// Document 01's number for a row to smooth, 0 for none.
-fn smooth_number(v: &[f32], weights: &[f32], scratch: usize) -> u32 {
+pub fn smooth_number(v: &[f32], weights: &[f32], scratch: usize) -> u32 {
     if v.len() > 16_384 {
         2
     } else if !v.iter().all(|x| in_range(*x, 4294967296.0)) {

@@ -137,15 +137,29 @@ pub fn print(seed: u64, times: u32) {
         while r.one_in(3) {
             grid_level::spoil(&mut r, &mut lists, &mut plain, &mut room);
         }
-        grid_line(&lists, plain, room / records::WORDS, space);
+        if lists.weights.len() <= 64 {
+            grid_line(&lists, plain, room / records::WORDS, space);
+        }
+    }
+    println!("# 255 and 257 weights, the most that are accepted, on rows shorter and longer than they reach; 259 are refused.");
+    for (sigma, truncate) in [(31.75, 4.0), (32.0, 4.0), (32.25, 4.0)] {
+        let weights = row_level::gaussian(sigma, truncate);
+        for n in [3, 129, 300] {
+            smoothing_line(&row(&mut r, n), &weights, sigma, truncate);
+        }
+        for _ in 0..6 * times {
+            let (mut lists, plain) = grid_level::sample(&mut r);
+            (lists.weights, lists.smoothing) = (weights.clone(), Some((sigma, truncate)));
+            grid_line(&lists, plain, plain.rows * row_level::most(plain.cols), plain.cols);
+        }
     }
 }
 
-/// A grid's line, if it fits the program's buffers.
+/// A grid's line, if it is not too long.
 fn grid_line(l: &grid_level::Lists, plain: Grid<'static>, places: usize, space: usize) {
     let g = grid_level::grid(l, plain);
     let (Ok(rows), Ok(cols)) = (u32::try_from(g.rows), u32::try_from(g.cols)) else { return };
-    let longest = [l.scans.len(), l.mobility.len(), l.weights.len(), space, places].into_iter().max();
+    let longest = [l.scans.len(), l.mobility.len(), space, places].into_iter().max();
     if l.data.len().max(l.raw.len()) > 256 || longest > Some(64) {
         return;
     }
@@ -203,10 +217,13 @@ fn row_line(row: &row_level::Row) {
 }
 
 fn smoothing_line(v: &[f32], weights: &[f32], sigma: f32, truncate: f32) {
+    let number = row_level::smooth_number(v, weights, v.len());
     let mut after = v.to_vec();
-    utility::smooth_vector_gaussian(&mut after, sigma, truncate);
+    if number == 0 {
+        utility::smooth_vector_gaussian(&mut after, sigma, truncate);
+    }
     let lengths = [v.len() as u32, weights.len() as u32, v.len() as u32];
-    line(33, &[&lengths[..], &words(v), &words(weights), &[0], &words(&after)].concat());
+    line(33, &[&lengths[..], &words(v), &words(weights), &[number], &words(&after)].concat());
 }
 
 fn quad(y0: f32, y1: f32, y2: f32) {
