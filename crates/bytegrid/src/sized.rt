@@ -13,7 +13,7 @@ ghost use Rattle.bytegrid.specs.ByteGrid.{Fit};
 // Rows that are worked through in one part.
 const MANY_ROWS: usize = 65536;
 
-// The same with room for rows of 32, 256, 1,024 and 16,384 samples.
+// The records of the peaks of the rows from `from` to `to`, with room for rows of 32, 256, 1,024 and 16,384 samples.
 fn detect_in_32(
     from: usize,
     to: usize,
@@ -187,7 +187,7 @@ fn detect_in_16384(
 }
 
 // The records of the peaks of the rows from `from` to `to`. Many rows are worked through in two halves. This function calls itself, so a
-// compiler keeps the lists of the three below out of its frame, and short rows do not pay for the lists of long ones.
+// compiler keeps the lists of those that it calls out of its frame, and short rows do not pay for the lists of long ones.
 pub fn detect_bytes(
     from: usize,
     to: usize,

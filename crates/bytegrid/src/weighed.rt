@@ -11,7 +11,7 @@ ghost use Rattle.gridrows.specs.Steps.{gridOf, Lent, Ready, Done};
 ghost use Rattle.wordbytes.specs.Bytes.{wordsOf, floatsOf};
 ghost use Rattle.bytegrid.specs.ByteGrid.{asBytes, byteGrid};
 
-// The same for weights in bytes, which are divided by their sum once.
+// The records of the peaks of the rows from `from` to `to`, for weights in bytes, which are divided by their sum once.
 fn detect_smoothed(
     from: usize,
     to: usize,

@@ -10,7 +10,7 @@ ghost use Rattle.smoothing.specs.Smoothing.{normalised};
 ghost use Rattle.row.specs.Written.{asWords};
 ghost use Rattle.gridrows.specs.Steps.{callGrid, Ready, Done};
 
-// The same with room for the search of a row of 1,024 samples.
+// The records of the peaks of the rows from `from` to `to`, with room for the search of a row of 1,024 samples.
 fn detect_in_1024<'a>(
     raw: &'a [f32],
     smooth: &'a [f32],

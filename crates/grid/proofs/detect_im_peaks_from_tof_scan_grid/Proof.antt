@@ -23,35 +23,28 @@ use Rattle.grid.proofs.see.Reads as see-reads
 abbrev gridAt : (s : tie.Start) → Grid
 gridAt s = callGrid (s .args .cols) (s .args .data-raw .now) (s .args .«data» .now) (s .args .scans .now) (s .args .scale) (s .args .bounds) (s .args .mobility .now) (s .args .p) (s .args .weights .now) (s .args .first)
 
--- src/lib.rt:81:9
 see-requires : tie.Need-see-requires
 see-requires c κs = search needs
 
--- src/lib.rt:82:9
 number-requires : tie.Need-number-requires
 number-requires c κs = search needs
 
--- src/lib.rt:94:34
 detect-requires : tie.Need-detect-requires
 detect-requires c κs = let s = c .before .before .before .before .before .before .before .before .before .before .before .before in
     let a = accepted (gridAt s) (s .args .rows) (length (s .args .out .now)) (length (s .args .scratch .now)) (sym (seen-number (gridAt s) (s .args .rows) _ _ _ _ (c .before .before .before .before .see .ensures) (c .before .before .before .number .ensures)) ∙ c .before .before .if1 .taken) in
     (a .ready, a .long, a .narrow)
 
--- src/lib.rt:94:9
 same-length : tie.Need-same-length
 same-length c = search needs
 
--- src/lib.rt:94:9
 same-length-2 : tie.Need-same-length-2
 same-length-2 c = search needs
 
--- src/lib.rt:94:9
 returns : tie.Need-returns
 returns c = let s = c .before .before .before .before .before .before .before .before .before .before .before .before .before .before .before .before .before in
     let d = c .before .before .before .before .detect in
     answered (gridAt s) (s .args .rows) (s .args .out .now) _ (s .args .scratch .now) _ _ (sym (seen-number (gridAt s) (s .args .rows) _ _ _ _ (c .before .before .before .before .before .before .before .before .before .see .ensures) (c .before .before .before .before .before .before .before .before .number .ensures)) ∙ c .before .before .before .before .before .before .before .if1 .taken) (d .kept .1 .1 .1 .1 .1 .1 .1 .1 .1 .1 .1 .1 .1 .0) (d .ensures .0) (d .ensures .1)
 
--- src/lib.rt:64:1
 returns-2 : tie.Need-returns-2
 returns-2 c = let s = c .before .before .before .before .before .before .before .before .before .before in
     refused _ (gridAt s) (s .args .rows) (s .args .out .now) (s .args .scratch .now) (seen-number (gridAt s) (s .args .rows) _ _ _ _ (c .before .before .see .ensures) (c .before .number .ensures)) (c .if1 .left)

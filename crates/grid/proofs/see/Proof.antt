@@ -19,31 +19,24 @@ use Rattle.numeric.proofs.inner.all_in_range.Reads as all-in-range-reads
 use Rattle.params.proofs.inner.all_up_to.Reads as all-up-to-reads
 use Rattle.params.proofs.inner.is_rising.Reads as is-rising-reads
 
--- src/lib.rt:51:19
 used-len-requires : tie.Need-used-len-requires
 used-len-requires c κs = search needs
 
--- src/lib.rt:54:25
 sound-readings-requires : tie.Need-sound-readings-requires
 sound-readings-requires c κs = search needs
 
--- src/lib.rt:55:25
 all-in-range-requires : tie.Need-all-in-range-requires
 all-in-range-requires c κs = search needs
 
--- src/lib.rt:56:22
 all-up-to-requires : tie.Need-all-up-to-requires
 all-up-to-requires c κs = search needs
 
--- src/lib.rt:57:23
 is-rising-requires : tie.Need-is-rising-requires
 is-rising-requires c κs = search needs
 
--- src/lib.rt:58:24
 sound-weights-requires : tie.Need-sound-weights-requires
 sound-weights-requires c κs = search needs
 
--- src/lib.rt:47:1
 returns : tie.Need-returns
 returns c = rw (c .sound-weights .ensures, c .before .is-rising .ensures, c .before .before .all-up-to .ensures, c .before .before .before .all-in-range .ensures, c .before .before .before .before .sound-readings .ensures, c .before .before .before .before .before .used-len .ensures)
 

@@ -14,11 +14,9 @@ use Rattle.grid.proofs.sound_weights.Reads as reads
 use Rattle.grid.proofs.sound_weights.Lts as lts
 use Rattle.smoothing.proofs.inner.sound_weights.Reads as sound-weights-reads
 
--- src/lib.rt:43:28
 sound-weights-requires : tie.Need-sound-weights-requires
 sound-weights-requires c κs = search needs
 
--- src/lib.rt:40:1
 returns : tie.Need-returns
 returns c = rw (c .sound-weights .ensures)
 

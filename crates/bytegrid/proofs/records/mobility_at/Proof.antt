@@ -17,19 +17,15 @@ use Rattle.bytegrid.proofs.records.mobility_at.Lts as lts
 use Rattle.numeric.proofs.float_of.Reads as float-of-reads
 use Rattle.wordbytes.proofs.inner.word_at.Reads as word-at-reads
 
--- src/inner.rt:57:34
 word-at-requires : tie.Need-word-at-requires
 word-at-requires c κs = search needs
 
--- src/inner.rt:57:9
 float-of-requires : tie.Need-float-of-requires
 float-of-requires c κs = search needs
 
--- src/inner.rt:57:9
 returns : tie.Need-returns
 returns c = let s = c .before .before .before .before in c .float-of .ensures ∙ ap (ofBits binary32) (c .before .word-at .ensures) ∙ mobility-there (s .args .mobility .now) (s .args .i) (c .before .before .if1 .taken)
 
--- src/inner.rt:53:1
 returns-2 : tie.Need-returns-2
 returns-2 c = let s = c .before .before in mobility-none (s .args .mobility .now) (s .args .i) (c .if1 .left)
 

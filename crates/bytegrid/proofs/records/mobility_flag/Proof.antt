@@ -14,11 +14,9 @@ use Rattle.bytegrid.proofs.records.mobility_flag.Tie as tie
 use Rattle.bytegrid.proofs.records.mobility_flag.Reads as reads
 use Rattle.bytegrid.proofs.records.mobility_flag.Lts as lts
 
--- src/inner.rt:66:9
 returns : tie.Need-returns
 returns c = flag-clear (c .before .args .mobility .now) (c .if1 .taken)
 
--- src/inner.rt:62:1
 returns-2 : tie.Need-returns-2
 returns-2 c = flag-set (c .before .args .mobility .now) (c .if1 .left)
 

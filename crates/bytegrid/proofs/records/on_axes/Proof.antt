@@ -16,35 +16,27 @@ use Rattle.bytegrid.proofs.records.mobility_at.Reads as mobility-at-rea
 use Rattle.bytegrid.proofs.records.mobility_flag.Reads as mobility-flag-reads
 use Rattle.bytegrid.proofs.records.scan_at.Reads as scan-at-reads
 
--- src/inner.rt:77:15
 scan-at-requires : tie.Need-scan-at-requires
 scan-at-requires c κs = search needs
 
--- src/inner.rt:78:30
 cast-scan-at : tie.Need-cast-scan-at
 cast-scan-at c = search needs
 
--- src/inner.rt:78:15
 scan-at-requires-2 : tie.Need-scan-at-requires-2
 scan-at-requires-2 c κs = search needs
 
--- src/inner.rt:79:31
 cast-scan-at-2 : tie.Need-cast-scan-at-2
 cast-scan-at-2 c = search needs
 
--- src/inner.rt:79:16
 scan-at-requires-3 : tie.Need-scan-at-requires-3
 scan-at-requires-3 c κs = search needs
 
--- src/inner.rt:80:19
 mobility-at-requires : tie.Need-mobility-at-requires
 mobility-at-requires c κs = search needs
 
--- src/inner.rt:81:15
 mobility-flag-requires : tie.Need-mobility-flag-requires
 mobility-flag-requires c κs = search needs
 
--- src/inner.rt:72:1
 returns : tie.Need-returns
 returns c = rw (c .mobility-flag .ensures, c .before .mobility-at .ensures, c .before .before .scan-at3 .ensures, c .before .before .before .before .scan-at2 .ensures, c .before .before .before .before .before .before .scan-at .ensures)
 

@@ -30,7 +30,6 @@ loop-holds : tie.Need-loop-holds Inv-loop μ-loop
 loop-holds c = let s = c .before .before .before .before .before .before in
     (omega arith, refl, (λ ks h. rw (none-yet ks) (listed-none (s .args .place) (s .args .bounds) (floatsOf (s .args .mobility .now)) (wordsOf (s .args .scans .now)) (s .args .y .now) (s .args .z .now) (s .args .first) asBytes (s .args .out .now))))
 
--- src/inner.rt:135:13
 measured-at-requires : tie.Need-measured-at-requires Inv-loop μ-loop
 measured-at-requires c κs = let s = c .before .before .before .before .before .before .before .before in
     let r = s .pre .2 .1 .room in omega arith
@@ -63,23 +62,19 @@ peak-on-requires c κs = let m = c .before in
     let i = inside m (s .pre .2 .0) (s .pre .2 .1) in
     (i .low, i .high, i .raw, i .short, omega (arith, ap (λ (o : OnAxes). o .flag) (c .on-axes .ensures), mobility-flag-le (floatsOf (s .args .mobility .now))))
 
--- src/inner.rt:137:9
 put-record-requires : tie.Need-put-record-requires Inv-loop μ-loop
 put-record-requires c κs = let l = c .before .before .before .before .before in
     let s = l .before .before .before .before .before .before .before in
     let w = s .pre .0 .words in let few = s .pre .1 in let e = l .loop .inv .1 in omega arith
 
--- src/inner.rt:134:9
 add-j : tie.Need-add-j Inv-loop μ-loop
 add-j c = let l = c .before .before .before .before .before .before .before .before in
     let s = l .before .before .before .before .before .before .before in
     let few = s .pre .1 in omega (arith, s .pre .0 .short)
 
--- src/inner.rt:134:5
 loop-less : tie.Need-loop-less Inv-loop μ-loop
 loop-less c = search needs
 
--- src/inner.rt:134:5
 loop-again : tie.Need-loop-again Inv-loop μ-loop
 loop-again c = let w = c .before .before in
     let k = w .before .before in
@@ -99,11 +94,9 @@ loop-again c = let w = c .before .before in
           (w .put-record .ensures)),
     )
 
--- src/inner.rt:119:1
 same-length : tie.Need-same-length Inv-loop μ-loop
 same-length c = search needs
 
--- src/inner.rt:119:1
 returns : tie.Need-returns Inv-loop μ-loop
 returns c = let l = c .before in
     let s = l .before .before .before .before .before .before .before in

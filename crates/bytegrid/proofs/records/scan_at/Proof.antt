@@ -15,23 +15,18 @@ use Rattle.bytegrid.proofs.records.scan_at.Reads as reads
 use Rattle.bytegrid.proofs.records.scan_at.Lts as lts
 use Rattle.wordbytes.proofs.inner.word_at.Reads as word-at-reads
 
--- src/inner.rt:46:16
 sub-last : tie.Need-sub-last
 sub-last c = search needs
 
--- src/inner.rt:48:9
 word-at-requires : tie.Need-word-at-requires
 word-at-requires c κs = search needs
 
--- src/inner.rt:48:9
 returns : tie.Need-returns
 returns c = let s = c .before .before .before in c .word-at .ensures ∙ scan-before (s .args .scans .now) (s .args .k) (c .before .if1 .taken)
 
--- src/inner.rt:50:5
 word-at-requires-2 : tie.Need-word-at-requires-2
 word-at-requires-2 c κs = search needs
 
--- src/inner.rt:42:1
 returns-2 : tie.Need-returns-2
 returns-2 c = let s = c .before .before .before in c .word-at2 .ensures ∙ scan-last (s .args .scans .now) (s .args .k) (s .pre) (c .before .if1 .left)
 

@@ -33,56 +33,44 @@ start f = f .before .before .before .before .before .before .before .before .bef
 row-is : (f : tie.After-decode-floats) → f .decode-floats .last .1 .1 .0 ≡ rowOf (gridAt (start f)) (start f .args .r)
 row-is f = let s = start f in f .decode-floats .ensures ∙ ap (λ (k : ℕ). take k (drop (s .args .r * s .args .cols) (floatsOf (s .args .used .now)))) (s .pre .1)
 
--- src/inner.rt:129:46
 cast-row-place : tie.Need-cast-row-place
 cast-row-place c = search needs
 
--- src/inner.rt:129:9
 row-place-requires : tie.Need-row-place-requires
 row-place-requires c κs = search needs
 
--- src/inner.rt:130:43
 mul-decode-floats : tie.Need-mul-decode-floats
 mul-decode-floats c = let s = c .before .before .before .before .before .before .before .before .before .before .before .before in omega (arith, s .pre .0 .readings, floats-length (s .args .used .now), s .good)
 
--- src/inner.rt:130:5
 decode-floats-requires : tie.Need-decode-floats-requires
 decode-floats-requires c κs = let s = c .before .before .before .before .before .before .before .before .before .before .before .before .before in
     let f = floats-length (s .args .used .now) in
     let r = s .pre .0 .readings in
     (rw (s .pre .1) (omega arith), s .pre .0 .ranged)
 
--- src/inner.rt:131:5
 list-row-requires : tie.Need-list-row-requires
 list-row-requires c κs = let f = c .before .before .before .before .before .before .before .before in
     let s = start f in
     row-handed (gridAt s) (s .args .u .now) (s .args .r) _ (s .pre .0) _ _ _ _ _ (s .pre .2) (row-is f)
 
--- src/inner.rt:107:1
 same-length : tie.Need-same-length
 same-length c = search needs
 
--- src/inner.rt:107:1
 same-length-2 : tie.Need-same-length-2
 same-length-2 c = search needs
 
--- src/inner.rt:107:1
 same-length-3 : tie.Need-same-length-3
 same-length-3 c = search needs
 
--- src/inner.rt:107:1
 same-length-4 : tie.Need-same-length-4
 same-length-4 c = search needs
 
--- src/inner.rt:107:1
 same-length-5 : tie.Need-same-length-5
 same-length-5 c = search needs
 
--- src/inner.rt:107:1
 same-length-6 : tie.Need-same-length-6
 same-length-6 c = search needs
 
--- src/inner.rt:107:1
 returns : tie.Need-returns
 returns c = let f = c .before .before .before .before .before .before .before .before .before .before .before .before .before .before .before .before .before .before .before in
     let s = start f in

@@ -46,57 +46,45 @@ ids c = let s = start c in
     let l = c .before .loop in
     turn-ids (gridAt s) (s .args .from) (s .args .to) _ (s .pre .0) (l .r) (l .n) (l .inv .6) (c .loop-test .taken) (l .inv .8 .count) (omega (arith, s .good))
 
--- src/inner.rt:160:5
 loop-holds : tie.Need-loop-holds Inv-loop μ-loop
 loop-holds c = let s = c .before .before .before .before .before .before .before .before .before .before .before in (refl, refl, refl, refl, refl, refl, omega arith, omega arith, done-start asBytes (gridAt s) (s .args .from) (s .args .out .now))
 
--- src/inner.rt:161:18
 mul-at : tie.Need-mul-at Inv-loop μ-loop
 mul-at c = omega (arith, room c, c .before .loop .inv .0, start c .good)
 
--- src/inner.rt:162:26
 cast-id : tie.Need-cast-id Inv-loop μ-loop
 cast-id c = let h = ids c in search needs
 
--- src/inner.rt:162:18
 add-id : tie.Need-add-id Inv-loop μ-loop
 add-id c = let h = ids c in search needs
 
--- src/inner.rt:175:13
 sub-detect-row : tie.Need-sub-detect-row Inv-loop μ-loop
 sub-detect-row c = omega (arith, room c, c .before .loop .inv .0, start c .good)
 
--- src/inner.rt:175:13
 part-detect-row-start : tie.Need-part-detect-row-start Inv-loop μ-loop
 part-detect-row-start c = omega (arith, room c, c .before .loop .inv .0, start c .good)
 
--- src/inner.rt:175:13
 part-detect-row-end : tie.Need-part-detect-row-end Inv-loop μ-loop
 part-detect-row-end c = search needs
 
--- src/inner.rt:163:14
 detect-row-requires : tie.Need-detect-row-requires Inv-loop μ-loop
 detect-row-requires c κs = let i = c .before .before .before .before .before .before in
     let s = start i in
     let l = i .before .loop in
     (turn-ready (gridAt s) (s .args .from) (s .args .to) _ (s .pre .0) (l .r) (l .n) (l .inv .6) (i .loop-test .taken) (l .inv .8 .count) (s .args .u .now) _ (s .pre .1) (words-left _ (l .n) (mostPeaks (s .args .cols)) _ (rw (l .inv .0) at (room i)) (rw (length-take, length-drop) (omega (arith, l .inv .0)))), l .inv .1 ∙ s .pre .2, rw (l .inv .2, l .inv .3, l .inv .4, l .inv .5) (s .pre .3))
 
--- src/inner.rt:163:9
 add-n : tie.Need-add-n Inv-loop μ-loop
 add-n c = let i = c .before .before .before .before .before .before .before .before .before .before .before .before .before .before .before .before .before .before .before in
     let s = start i in
     let b = listed-bound (numbered (gridAt s) (s .args .first + i .before .loop .n)) (i .before .loop .r) in
     omega (arith, most i, b, s .pre .0 .ids, c .before .before .before .before .before .before .before .before .before .before .before .before .detect-row .ensures .count)
 
--- src/inner.rt:160:9
 add-r : tie.Need-add-r Inv-loop μ-loop
 add-r c = let i = c .before .before .before .before .before .before .before .before .before .before .before .before .before .before .before .before .before .before .before in omega (arith, i .loop-test .taken, start i .good)
 
--- src/inner.rt:160:5
 loop-less : tie.Need-loop-less Inv-loop μ-loop
 loop-less c = search needs
 
--- src/inner.rt:160:5
 loop-again : tie.Need-loop-again Inv-loop μ-loop
 loop-again c = let i = c .before .before .before .before .before .before .before .before .before .before .before .before .before .before .before .before .before .before .before in
     let s = start i in
@@ -105,31 +93,24 @@ loop-again c = let i = c .before .before .before .before .before .before .before
     let k = d .kept .1 .1 .1 .1 .1 .1 .1 .1 .1 .1 .1 in
     (same-len-mid (l .n * 108) (length (l .out) - l .n * 108) (l .out) (d .last .1 .1 .1 .1 .1 .1 .1 .1 .1 .1 .1 .0) (k .0) ∙ l .inv .0, k .1 .0 ∙ l .inv .1, k .1 .1 .0 ∙ l .inv .2, k .1 .1 .1 .0 ∙ l .inv .3, k .1 .1 .1 .1 .0 ∙ l .inv .4, k .1 .1 .1 .1 .1 .0 ∙ l .inv .5, omega (arith, l .inv .6), omega (arith, l .inv .6, i .loop-test .taken), turn-done (gridAt s) (s .args .from) (s .args .to) _ (s .pre .0) (l .r) (l .n) (l .inv .6) (i .loop-test .taken) (l .inv .8 .count) asBytes (s .args .out .now) (l .out) _ _ (l .inv .8) (d .ensures))
 
--- src/inner.rt:137:1
 same-length : tie.Need-same-length Inv-loop μ-loop
 same-length c = search needs
 
--- src/inner.rt:137:1
 same-length-2 : tie.Need-same-length-2 Inv-loop μ-loop
 same-length-2 c = search needs
 
--- src/inner.rt:137:1
 same-length-3 : tie.Need-same-length-3 Inv-loop μ-loop
 same-length-3 c = search needs
 
--- src/inner.rt:137:1
 same-length-4 : tie.Need-same-length-4 Inv-loop μ-loop
 same-length-4 c = search needs
 
--- src/inner.rt:137:1
 same-length-5 : tie.Need-same-length-5 Inv-loop μ-loop
 same-length-5 c = search needs
 
--- src/inner.rt:137:1
 same-length-6 : tie.Need-same-length-6 Inv-loop μ-loop
 same-length-6 c = search needs
 
--- src/inner.rt:137:1
 returns : tie.Need-returns Inv-loop μ-loop
 returns c = let s = c .before .before .before .before .before .before .before .before .before .before .before .before .before in
     let l = c .before .loop in

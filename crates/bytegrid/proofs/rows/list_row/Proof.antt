@@ -24,19 +24,15 @@ use Rattle.bytegrid.proofs.rows.list_row.Tie as tie
 abbrev start : tie.After-search-row → tie.Start
 start f = f .before .before .before .before .before .before .before .before .before .before .before .before .before .before .before
 
--- src/inner.rt:151:9
 search-row-requires : tie.Need-search-row-requires
 search-row-requires c κs = search needs
 
--- src/inner.rt:153:28
 enum-told : tie.Need-enum-told
 enum-told c = search needs
 
--- src/inner.rt:154:21
 enum-known-sought : tie.Need-enum-known-sought
 enum-known-sought c = search needs
 
--- src/inner.rt:155:13
 put-peaks-requires : tie.Need-put-peaks-requires
 put-peaks-requires c κs = let f = c .before .before .before .before .before .before .before .before .before .before .before .before .before in
     let x = start f .args in
@@ -44,15 +40,12 @@ put-peaks-requires c κs = let f = c .before .before .before .before .before .be
     let h : Says (x .p) (x .weights .now) (x .z .now) (f .search-row .last .1 .1 .1 .1 .0) (f .search-row .last .1 .1 .1 .1 .1 .1 .1 .0) (Raw (m .0 .0)) = rw (m .1) at (f .search-row .ensures .says) in
     (start f .pre .row, omega (arith, h .1 .count, kept-count (x .p) (x .z .now) (x .z .now)), (kept (x .p) (x .z .now) (x .z .now), h .1))
 
--- src/inner.rt:160:26
 enum-known-sought-2 : tie.Need-enum-known-sought-2
 enum-known-sought-2 c = search needs
 
--- src/inner.rt:165:17
 slice-reshare-prefix-put-peaks : tie.Need-slice-reshare-prefix-put-peaks
 slice-reshare-prefix-put-peaks c = search needs
 
--- src/inner.rt:165:17
 slice-aggregate-put-peaks : tie.Need-slice-aggregate-put-peaks
 slice-aggregate-put-peaks c = let f = c .before .before .before .before .before .before .before .before .before .before .before .before .before in
     let x = start f .args in
@@ -61,7 +54,6 @@ slice-aggregate-put-peaks c = let f = c .before .before .before .before .before 
     let l : length (take (length (x .z .now)) _) ≡ length (x .z .now) = sym (ap length (h .0)) ∙ searched-length (x .weights .now) (x .z .now) in
     sym l
 
--- src/inner.rt:162:13
 put-peaks-requires-2 : tie.Need-put-peaks-requires-2
 put-peaks-requires-2 c κs = let f = c .before .before .before .before .before .before .before .before .before .before .before .before .before .before in
     let x = start f .args in
@@ -70,50 +62,39 @@ put-peaks-requires-2 c κs = let f = c .before .before .before .before .before .
     let l : length (take (length (x .z .now)) _) ≡ length (x .z .now) = sym (ap length (h .0)) ∙ searched-length (x .weights .now) (x .z .now) in
     (ready-for _ (x .z .now) (wordsOf (x .scans .now)) (x .first) _ l (start f .pre .row), omega (arith, h .1 .count, kept-count (x .p) (take (length (x .z .now)) (f .search-row .last .1 .1 .1 .1 .0)) (x .z .now)), (kept (x .p) (take (length (x .z .now)) (f .search-row .last .1 .1 .1 .1 .0)) (x .z .now), h .1))
 
--- src/inner.rt:131:1
 same-length : tie.Need-same-length
 same-length c = search needs
 
--- src/inner.rt:131:1
 same-length-2 : tie.Need-same-length-2
 same-length-2 c = search needs
 
--- src/inner.rt:131:1
 same-length-3 : tie.Need-same-length-3
 same-length-3 c = search needs
 
--- src/inner.rt:131:1
 same-length-4 : tie.Need-same-length-4
 same-length-4 c = search needs
 
--- src/inner.rt:131:1
 returns : tie.Need-returns
 returns c = let f = c .before .before .before .before .before .before .before .before .before .before in
     let x = start f .args in
     let h : Says (x .p) (x .weights .now) (x .z .now) (f .search-row .last .1 .1 .1 .1 .0) (f .search-row .last .1 .1 .1 .1 .1 .1 .1 .0) Nothing = rw (c .enum-told .given .1) at (f .search-row .ensures .says) in
     (listed-none asBytes (x .place) (x .bounds) (floatsOf (x .mobility .now)) (x .p) (wordsOf (x .scans .now)) (x .weights .now) (x .z .now) (x .first) (x .out .now) h)
 
--- src/inner.rt:131:1
 same-length-5 : tie.Need-same-length-5
 same-length-5 c = search needs
 
--- src/inner.rt:131:1
 same-length-6 : tie.Need-same-length-6
 same-length-6 c = search needs
 
--- src/inner.rt:131:1
 same-length-7 : tie.Need-same-length-7
 same-length-7 c = search needs
 
--- src/inner.rt:131:1
 same-length-8 : tie.Need-same-length-8
 same-length-8 c = search needs
 
--- src/inner.rt:131:1
 same-length-9 : tie.Need-same-length-9
 same-length-9 c = search needs
 
--- src/inner.rt:131:1
 returns-2 : tie.Need-returns-2
 returns-2 c = let f = c .before .before .before .before .before .before .before .before .before .before .before .before .before .before .before .before in
     let x = start f .args in
@@ -121,27 +102,21 @@ returns-2 c = let f = c .before .before .before .before .before .before .before 
     let h : Says (x .p) (x .weights .now) (x .z .now) (f .search-row .last .1 .1 .1 .1 .0) (f .search-row .last .1 .1 .1 .1 .1 .1 .1 .0) (Raw (m .0 .0)) = rw (m .1) at (f .search-row .ensures .says) in
     (listed-by asBytes (x .place) (x .bounds) (floatsOf (x .mobility .now)) (x .p) (wordsOf (x .scans .now)) (x .weights .now) (x .z .now) (x .first) (x .z .now) (x .out .now) _ _ (h .0) (c .before .before .put-peaks .ensures (kept (x .p) (x .z .now) (x .z .now)) (h .1)))
 
--- src/inner.rt:131:1
 same-length-10 : tie.Need-same-length-10
 same-length-10 c = search needs
 
--- src/inner.rt:131:1
 same-length-11 : tie.Need-same-length-11
 same-length-11 c = search needs
 
--- src/inner.rt:131:1
 same-length-12 : tie.Need-same-length-12
 same-length-12 c = search needs
 
--- src/inner.rt:131:1
 same-length-13 : tie.Need-same-length-13
 same-length-13 c = search needs
 
--- src/inner.rt:131:1
 same-length-14 : tie.Need-same-length-14
 same-length-14 c = search needs
 
--- src/inner.rt:131:1
 returns-3 : tie.Need-returns-3
 returns-3 c = let f = c .before .before .before .before .before .before .before .before .before .before .before .before .before .before .before .before .before in
     let x = start f .args in

@@ -39,7 +39,6 @@ detect-bytes-below t =
     (falls 5 detect-bytes-kinds.ps _<_ μ-detect-bytes t)
     detect-bytes.Pre
 
--- src/inner.rt:606:8
 detect-bytes-sub-if1 : (t : ℕ) → detect-bytes-lts.Need-sub-if1 (
   detect-bytes-below t,
   detect-bytes.Post,
@@ -54,7 +53,6 @@ detect-bytes-sub-if1 : (t : ℕ) → detect-bytes-lts.Need-sub-if1 (
 ) (detect-bytes-at t) detect-bytes.Post
 detect-bytes-sub-if1 t c = c .before .before .before .before .before .pre .1 .order
 
--- src/inner.rt:607:27
 detect-bytes-sub-mid : (t : ℕ) → detect-bytes-lts.Need-sub-mid (
   detect-bytes-below t,
   detect-bytes.Post,
@@ -69,7 +67,6 @@ detect-bytes-sub-mid : (t : ℕ) → detect-bytes-lts.Need-sub-mid (
 ) (detect-bytes-at t) detect-bytes.Post
 detect-bytes-sub-mid t c = c .before .before .before .before .before .before .pre .1 .order
 
--- src/inner.rt:607:19
 detect-bytes-add-mid : (t : ℕ) → detect-bytes-lts.Need-add-mid (
   detect-bytes-below t,
   detect-bytes.Post,
@@ -84,7 +81,6 @@ detect-bytes-add-mid : (t : ℕ) → detect-bytes-lts.Need-add-mid (
 ) (detect-bytes-at t) detect-bytes.Post
 detect-bytes-add-mid t c = let s = c .before .before .before .before .before .before in omega (arith, s .pre .1 .order, s .good)
 
--- src/inner.rt:608:13
 detect-bytes-detect-bytes-requires : (t : ℕ) → detect-bytes-lts.Need-detect-bytes-requires (
   detect-bytes-below t,
   detect-bytes.Post,
@@ -106,7 +102,6 @@ detect-bytes-detect-bytes-requires t c κs = let s = c .before .before .before .
     let high : mid < x .to = omega (arith, many) in
     (omega (arith, s .pre .0, many), front-fit g (x .from) mid (x .to) _ (s .pre .1) low high)
 
--- src/inner.rt:622:18
 detect-bytes-mul-at : (t : ℕ) → detect-bytes-lts.Need-mul-at (
   detect-bytes-below t,
   detect-bytes.Post,
@@ -129,7 +124,6 @@ detect-bytes-mul-at t c = let s = c .before .before .before .before .before .bef
     let d = c .before .before .detect-bytes in
     omega (arith, front-room g (x .from) mid (x .to) _ (s .pre .1) low high _ _ _ (d .ensures), s .good)
 
--- src/inner.rt:623:26
 detect-bytes-cast-id : (t : ℕ) → detect-bytes-lts.Need-cast-id (
   detect-bytes-below t,
   detect-bytes.Post,
@@ -152,7 +146,6 @@ detect-bytes-cast-id t c = let s = c .before .before .before .before .before .be
     let d = c .before .before .detect-bytes in
     let i = front-ids g (x .from) mid (x .to) _ (s .pre .1) low high _ _ _ (d .ensures) (omega (arith, s .good)) in omega (arith, i .0, i .1)
 
--- src/inner.rt:623:18
 detect-bytes-add-id : (t : ℕ) → detect-bytes-lts.Need-add-id (
   detect-bytes-below t,
   detect-bytes.Post,
@@ -175,7 +168,6 @@ detect-bytes-add-id t c = let s = c .before .before .before .before .before .bef
     let d = c .before .before .detect-bytes in
     let i = front-ids g (x .from) mid (x .to) _ (s .pre .1) low high _ _ _ (d .ensures) (omega (arith, s .good)) in omega (arith, i .0, i .1)
 
--- src/inner.rt:636:13
 detect-bytes-sub-detect-bytes : (t : ℕ) → detect-bytes-lts.Need-sub-detect-bytes (
   detect-bytes-below t,
   detect-bytes.Post,
@@ -198,7 +190,6 @@ detect-bytes-sub-detect-bytes t c = let s = c .before .before .before .before .b
     let d = c .before .before .detect-bytes in
     omega (arith, front-room g (x .from) mid (x .to) _ (s .pre .1) low high _ _ _ (d .ensures), d .kept .1 .1 .1 .1 .1 .1 .1 .1 .1 .1 .1 .0)
 
--- src/inner.rt:636:13
 detect-bytes-part-detect-bytes-start : (t : ℕ) → detect-bytes-lts.Need-part-detect-bytes-start (
   detect-bytes-below t,
   detect-bytes.Post,
@@ -221,7 +212,6 @@ detect-bytes-part-detect-bytes-start t c = let s = c .before .before .before .be
     let d = c .before .before .detect-bytes in
     omega (arith, front-room g (x .from) mid (x .to) _ (s .pre .1) low high _ _ _ (d .ensures), d .kept .1 .1 .1 .1 .1 .1 .1 .1 .1 .1 .1 .0)
 
--- src/inner.rt:636:13
 detect-bytes-part-detect-bytes-end : (t : ℕ) → detect-bytes-lts.Need-part-detect-bytes-end (
   detect-bytes-below t,
   detect-bytes.Post,
@@ -236,7 +226,6 @@ detect-bytes-part-detect-bytes-end : (t : ℕ) → detect-bytes-lts.Need-part-de
 ) (detect-bytes-at t) detect-bytes.Post
 detect-bytes-part-detect-bytes-end t c = search needs
 
--- src/inner.rt:624:13
 detect-bytes-detect-bytes-requires-2 : (t : ℕ) → detect-bytes-lts.Need-detect-bytes-requires-2 (
   detect-bytes-below t,
   detect-bytes.Post,
@@ -259,7 +248,6 @@ detect-bytes-detect-bytes-requires-2 t c κs = let s = c .before .before .before
     let d = c .before .before .before .detect-bytes in
     (omega (arith, s .pre .0, many), back-fit g (x .from) mid (x .to) _ (s .pre .1) low high _ _ _ (d .ensures) _ (rw (length-take, length-drop) (omega (arith, d .kept .1 .1 .1 .1 .1 .1 .1 .1 .1 .1 .1 .0))))
 
--- src/inner.rt:638:16
 detect-bytes-add-result : (t : ℕ) → detect-bytes-lts.Need-add-result (
   detect-bytes-below t,
   detect-bytes.Post,
@@ -283,7 +271,6 @@ detect-bytes-add-result t c = let s = c .before .before .before .before .before 
     let j = halves-done g (x .from) mid (x .to) _ (s .pre .1) low high _ _ _ (d .ensures) _ _ (c .before .before .detect-bytes2 .ensures) in
     omega (arith, count-fits g (x .from) (x .to) _ _ _ _ (s .pre .1) j)
 
--- src/inner.rt:638:9
 detect-bytes-same-length : (t : ℕ) → detect-bytes-lts.Need-same-length (
   detect-bytes-below t,
   detect-bytes.Post,
@@ -300,7 +287,6 @@ detect-bytes-same-length t c = let d = c .before .before .before .before .before
     let e = c .before .before .detect-bytes2 in
     same-len-mid (d .result * 108) (length (d .last .1 .1 .1 .1 .1 .1 .1 .1 .1 .1 .1 .0) - d .result * 108) (d .last .1 .1 .1 .1 .1 .1 .1 .1 .1 .1 .1 .0) (e .last .1 .1 .1 .1 .1 .1 .1 .1 .1 .1 .1 .0) (e .kept .1 .1 .1 .1 .1 .1 .1 .1 .1 .1 .1 .0) ∙ d .kept .1 .1 .1 .1 .1 .1 .1 .1 .1 .1 .1 .0
 
--- src/inner.rt:638:9
 detect-bytes-returns : (t : ℕ) → detect-bytes-lts.Need-returns (
   detect-bytes-below t,
   detect-bytes.Post,
@@ -324,7 +310,6 @@ detect-bytes-returns t c = let s = c .before .before .before .before .before .be
     let j = halves-done g (x .from) mid (x .to) _ (s .pre .1) low high _ _ _ (d .ensures) _ _ (c .before .before .detect-bytes2 .ensures) in
     j
 
--- src/inner.rt:641:9
 detect-bytes-detect-in-32-requires : (t : ℕ) → detect-bytes-lts.Need-detect-in-32-requires (
   detect-bytes-below t,
   detect-bytes.Post,
@@ -339,7 +324,6 @@ detect-bytes-detect-in-32-requires : (t : ℕ) → detect-bytes-lts.Need-detect-
 ) (detect-bytes-at t) detect-bytes.Post
 detect-bytes-detect-in-32-requires t c κs = (c .before .before .before .before .before .before .before .before .pre .1, c .before .if2 .taken)
 
--- src/inner.rt:641:9
 detect-bytes-same-length-2 : (t : ℕ) → detect-bytes-lts.Need-same-length-2 (
   detect-bytes-below t,
   detect-bytes.Post,
@@ -354,7 +338,6 @@ detect-bytes-same-length-2 : (t : ℕ) → detect-bytes-lts.Need-same-length-2 (
 ) (detect-bytes-at t) detect-bytes.Post
 detect-bytes-same-length-2 t c = search needs
 
--- src/inner.rt:641:9
 detect-bytes-returns-2 : (t : ℕ) → detect-bytes-lts.Need-returns-2 (
   detect-bytes-below t,
   detect-bytes.Post,
@@ -369,7 +352,6 @@ detect-bytes-returns-2 : (t : ℕ) → detect-bytes-lts.Need-returns-2 (
 ) (detect-bytes-at t) detect-bytes.Post
 detect-bytes-returns-2 t c = c .before .before .detect-in-32 .ensures
 
--- src/inner.rt:657:9
 detect-bytes-detect-in-256-requires : (t : ℕ) → detect-bytes-lts.Need-detect-in-256-requires (
   detect-bytes-below t,
   detect-bytes.Post,
@@ -384,7 +366,6 @@ detect-bytes-detect-in-256-requires : (t : ℕ) → detect-bytes-lts.Need-detect
 ) (detect-bytes-at t) detect-bytes.Post
 detect-bytes-detect-in-256-requires t c κs = (c .before .before .before .before .before .before .before .before .before .pre .1, c .before .if3 .taken)
 
--- src/inner.rt:657:9
 detect-bytes-same-length-3 : (t : ℕ) → detect-bytes-lts.Need-same-length-3 (
   detect-bytes-below t,
   detect-bytes.Post,
@@ -399,7 +380,6 @@ detect-bytes-same-length-3 : (t : ℕ) → detect-bytes-lts.Need-same-length-3 (
 ) (detect-bytes-at t) detect-bytes.Post
 detect-bytes-same-length-3 t c = search needs
 
--- src/inner.rt:657:9
 detect-bytes-returns-3 : (t : ℕ) → detect-bytes-lts.Need-returns-3 (
   detect-bytes-below t,
   detect-bytes.Post,
@@ -414,7 +394,6 @@ detect-bytes-returns-3 : (t : ℕ) → detect-bytes-lts.Need-returns-3 (
 ) (detect-bytes-at t) detect-bytes.Post
 detect-bytes-returns-3 t c = c .before .before .detect-in-256 .ensures
 
--- src/inner.rt:673:9
 detect-bytes-detect-in-1024-requires : (t : ℕ) → detect-bytes-lts.Need-detect-in-1024-requires (
   detect-bytes-below t,
   detect-bytes.Post,
@@ -429,7 +408,6 @@ detect-bytes-detect-in-1024-requires : (t : ℕ) → detect-bytes-lts.Need-detec
 ) (detect-bytes-at t) detect-bytes.Post
 detect-bytes-detect-in-1024-requires t c κs = (c .before .before .before .before .before .before .before .before .before .before .pre .1, c .before .if4 .taken)
 
--- src/inner.rt:673:9
 detect-bytes-same-length-4 : (t : ℕ) → detect-bytes-lts.Need-same-length-4 (
   detect-bytes-below t,
   detect-bytes.Post,
@@ -444,7 +422,6 @@ detect-bytes-same-length-4 : (t : ℕ) → detect-bytes-lts.Need-same-length-4 (
 ) (detect-bytes-at t) detect-bytes.Post
 detect-bytes-same-length-4 t c = search needs
 
--- src/inner.rt:673:9
 detect-bytes-returns-4 : (t : ℕ) → detect-bytes-lts.Need-returns-4 (
   detect-bytes-below t,
   detect-bytes.Post,
@@ -459,7 +436,6 @@ detect-bytes-returns-4 : (t : ℕ) → detect-bytes-lts.Need-returns-4 (
 ) (detect-bytes-at t) detect-bytes.Post
 detect-bytes-returns-4 t c = c .before .before .detect-in-1024 .ensures
 
--- src/inner.rt:688:5
 detect-bytes-detect-in-16384-requires : (t : ℕ) → detect-bytes-lts.Need-detect-in-16384-requires (
   detect-bytes-below t,
   detect-bytes.Post,
@@ -474,7 +450,6 @@ detect-bytes-detect-in-16384-requires : (t : ℕ) → detect-bytes-lts.Need-dete
 ) (detect-bytes-at t) detect-bytes.Post
 detect-bytes-detect-in-16384-requires t c κs = (c .before .before .before .before .before .before .before .before .before .before .pre .1, c .before .before .before .before .before .before .before .before .before .before .pre .1 .narrow)
 
--- src/inner.rt:589:1
 detect-bytes-same-length-5 : (t : ℕ) → detect-bytes-lts.Need-same-length-5 (
   detect-bytes-below t,
   detect-bytes.Post,
@@ -489,7 +464,6 @@ detect-bytes-same-length-5 : (t : ℕ) → detect-bytes-lts.Need-same-length-5 (
 ) (detect-bytes-at t) detect-bytes.Post
 detect-bytes-same-length-5 t c = search needs
 
--- src/inner.rt:589:1
 detect-bytes-returns-5 : (t : ℕ) → detect-bytes-lts.Need-returns-5 (
   detect-bytes-below t,
   detect-bytes.Post,

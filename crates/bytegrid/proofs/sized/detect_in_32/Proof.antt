@@ -15,35 +15,27 @@ use Rattle.bytegrid.proofs.sized.detect_in_32.Reads as reads
 use Rattle.bytegrid.proofs.sized.detect_in_32.Lts as lts
 use Rattle.bytegrid.proofs.weighed.detect_lent.Reads as detect-lent-reads
 
--- src/inner.rt:450:9
 slice-aggregate-detect-lent : tie.Need-slice-aggregate-detect-lent
 slice-aggregate-detect-lent c = search needs
 
--- src/inner.rt:451:9
 slice-aggregate-detect-lent-2 : tie.Need-slice-aggregate-detect-lent-2
 slice-aggregate-detect-lent-2 c = search needs
 
--- src/inner.rt:452:9
 slice-aggregate-detect-lent-3 : tie.Need-slice-aggregate-detect-lent-3
 slice-aggregate-detect-lent-3 c = search needs
 
--- src/inner.rt:453:9
 slice-aggregate-detect-lent-4 : tie.Need-slice-aggregate-detect-lent-4
 slice-aggregate-detect-lent-4 c = search needs
 
--- src/inner.rt:454:9
 slice-aggregate-detect-lent-5 : tie.Need-slice-aggregate-detect-lent-5
 slice-aggregate-detect-lent-5 c = search needs
 
--- src/inner.rt:437:5
 detect-lent-requires : tie.Need-detect-lent-requires
 detect-lent-requires c κs = let s = c .before .before .before .before .before .before .before .before .before .before .before in (s .pre .0 .ready, s .pre .1, lent (s .args .cols) 32 32 52 128 (s .pre .1) (s .pre .1) (omega arith) (omega arith))
 
--- src/inner.rt:415:1
 same-length : tie.Need-same-length
 same-length c = search needs
 
--- src/inner.rt:415:1
 returns : tie.Need-returns
 returns c = search needs
 

@@ -17,83 +17,63 @@ use Rattle.bytegrid.proofs.weighed.detect_lent.Lts as lts
 use Rattle.bytegrid.proofs.weighed.detect_plain.Reads as detect-plain-reads
 use Rattle.bytegrid.proofs.weighed.detect_smoothed.Reads as detect-smoothed-reads
 
--- src/inner.rt:386:13
 slice-relend-prefix-detect-plain : tie.Need-slice-relend-prefix-detect-plain
 slice-relend-prefix-detect-plain c = c .before .before .before .before .before .before .before .before .before .before .before .before .pre .1
 
--- src/inner.rt:386:13
 slice-aggregate-detect-plain : tie.Need-slice-aggregate-detect-plain
 slice-aggregate-detect-plain c = let s = c .before .before .before .before .before .before .before .before .before .before .before .before .before in sym (length-take-le (s .args .cols) (s .args .z .now) (s .pre .1))
 
--- src/inner.rt:374:9
 detect-plain-requires : tie.Need-detect-plain-requires
 detect-plain-requires c κs = let s = c .before .before .before .before .before .before .before .before .before .before .before .before .before .before .before .before .before in (rw (no-floats (s .args .weights .now) (c .before .before .before .before .before .before .if1 .taken)) at (s .pre .0), length-take-le (s .args .cols) (s .args .z .now) (s .pre .1), s .pre .2)
 
--- src/inner.rt:374:9
 same-length : tie.Need-same-length
 same-length c = search needs
 
--- src/inner.rt:374:9
 same-length-2 : tie.Need-same-length-2
 same-length-2 c = search needs
 
--- src/inner.rt:374:9
 same-length-3 : tie.Need-same-length-3
 same-length-3 c = search needs
 
--- src/inner.rt:374:9
 same-length-4 : tie.Need-same-length-4
 same-length-4 c = search needs
 
--- src/inner.rt:374:9
 same-length-5 : tie.Need-same-length-5
 same-length-5 c = search needs
 
--- src/inner.rt:374:9
 same-length-6 : tie.Need-same-length-6
 same-length-6 c = search needs
 
--- src/inner.rt:374:9
 returns : tie.Need-returns
 returns c = let s = c .before .before .before .before .before .before .before .before .before .before .before .before .before .before .before .before .before .before .before .before .before .before .before .before .before .before .before .before .before .before in rw (no-floats (s .args .weights .now) (c .before .before .before .before .before .before .before .before .before .before .before .before .before .before .before .before .before .before .before .if1 .taken)) (c .before .before .before .before .before .before .before .before .before .before .before .before .detect-plain .ensures)
 
--- src/inner.rt:406:9
 slice-relend-prefix-detect-smoothed : tie.Need-slice-relend-prefix-detect-smoothed
 slice-relend-prefix-detect-smoothed c = c .before .before .before .before .before .before .before .before .before .before .before .before .pre .1
 
--- src/inner.rt:406:9
 slice-aggregate-detect-smoothed : tie.Need-slice-aggregate-detect-smoothed
 slice-aggregate-detect-smoothed c = let s = c .before .before .before .before .before .before .before .before .before .before .before .before .before in sym (length-take-le (s .args .cols) (s .args .z .now) (s .pre .1))
 
--- src/inner.rt:393:5
 detect-smoothed-requires : tie.Need-detect-smoothed-requires
 detect-smoothed-requires c κs = let s = c .before .before .before .before .before .before .before .before .before .before .before .before .before .before .before .before .before in (s .pre .0, length-take-le (s .args .cols) (s .args .z .now) (s .pre .1), s .pre .2)
 
--- src/inner.rt:351:1
 same-length-7 : tie.Need-same-length-7
 same-length-7 c = search needs
 
--- src/inner.rt:351:1
 same-length-8 : tie.Need-same-length-8
 same-length-8 c = search needs
 
--- src/inner.rt:351:1
 same-length-9 : tie.Need-same-length-9
 same-length-9 c = search needs
 
--- src/inner.rt:351:1
 same-length-10 : tie.Need-same-length-10
 same-length-10 c = search needs
 
--- src/inner.rt:351:1
 same-length-11 : tie.Need-same-length-11
 same-length-11 c = search needs
 
--- src/inner.rt:351:1
 same-length-12 : tie.Need-same-length-12
 same-length-12 c = search needs
 
--- src/inner.rt:351:1
 returns-2 : tie.Need-returns-2
 returns-2 c = c .before .before .before .before .before .before .before .before .before .before .before .before .detect-smoothed .ensures
 

@@ -15,51 +15,39 @@ use Rattle.bytegrid.proofs.weighed.detect_plain.Reads as reads
 use Rattle.bytegrid.proofs.weighed.detect_plain.Lts as lts
 use Rattle.bytegrid.proofs.rows.detect_rows.Reads as detect-rows-reads
 
--- src/inner.rt:338:9
 array-share-prefix-none : tie.Need-array-share-prefix-none
 array-share-prefix-none c = search needs
 
--- src/inner.rt:338:9
 slice-aggregate-detect-rows : tie.Need-slice-aggregate-detect-rows
 slice-aggregate-detect-rows c = search needs
 
--- src/inner.rt:339:9
 array-share-prefix-none-divided : tie.Need-array-share-prefix-none-divided
 array-share-prefix-none-divided c = search needs
 
--- src/inner.rt:339:9
 slice-aggregate-detect-rows-2 : tie.Need-slice-aggregate-detect-rows-2
 slice-aggregate-detect-rows-2 c = search needs
 
--- src/inner.rt:328:5
 detect-rows-requires : tie.Need-detect-rows-requires
 detect-rows-requires c κs = let s = c .before .before .before .before .before .before .before .before .before .before .before .before .before .before .before .before .before in (s .pre .0, none-divided, s .pre .1, s .pre .2)
 
--- src/inner.rt:305:1
 same-length : tie.Need-same-length
 same-length c = search needs
 
--- src/inner.rt:305:1
 same-length-2 : tie.Need-same-length-2
 same-length-2 c = search needs
 
--- src/inner.rt:305:1
 same-length-3 : tie.Need-same-length-3
 same-length-3 c = search needs
 
--- src/inner.rt:305:1
 same-length-4 : tie.Need-same-length-4
 same-length-4 c = search needs
 
--- src/inner.rt:305:1
 same-length-5 : tie.Need-same-length-5
 same-length-5 c = search needs
 
--- src/inner.rt:305:1
 same-length-6 : tie.Need-same-length-6
 same-length-6 c = search needs
 
--- src/inner.rt:305:1
 returns : tie.Need-returns
 returns c = search needs
 

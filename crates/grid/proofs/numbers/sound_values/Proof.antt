@@ -17,23 +17,18 @@ use Rattle.params.proofs.inner.sound_bounds.Reads as sound-bounds-reads
 use Rattle.params.proofs.inner.sound_params.Reads as sound-params-reads
 use Rattle.tof.proofs.inner.sound_step.Reads as sound-step-reads
 
--- src/inner.rt:57:5
 sound-params-requires : tie.Need-sound-params-requires
 sound-params-requires c κs = search needs
 
--- src/inner.rt:59:11
 sound-bounds-requires : tie.Need-sound-bounds-requires
 sound-bounds-requires c κs = search needs
 
--- src/inner.rt:60:11
 sound-step-requires : tie.Need-sound-step-requires
 sound-step-requires c κs = search needs
 
--- src/inner.rt:61:11
 enough-ids-requires : tie.Need-enough-ids-requires
 enough-ids-requires c κs = search needs
 
--- src/inner.rt:47:1
 returns : tie.Need-returns
 returns c = rw (c .enough-ids .ensures, c .before .sound-step .ensures, c .before .before .sound-bounds .ensures, c .before .before .before .sound-params .ensures)
 

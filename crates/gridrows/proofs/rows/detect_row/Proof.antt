@@ -24,47 +24,36 @@ use Rattle.tof.proofs.inner.row_place.Reads as row-place-reads
 abbrev gridAt : (s : tie.Start) → Grid
 gridAt s = callGrid (s .args .cols) (s .args .raw .now) (s .args .smooth .now) (s .args .scans .now) (s .args .scale) (s .args .bounds) (s .args .mobility .now) (s .args .p) (s .args .weights .now) (s .args .first)
 
--- src/inner.rt:203:35
 mul-row-part : tie.Need-mul-row-part
 mul-row-part c = let s = c .before .before .before .before .before .before .before .before .before .before .before in omega (arith, used-le (s .args .raw .now) (s .args .smooth .now), s .pre .0 .readings, s .good)
 
--- src/inner.rt:203:9
 row-part-requires : tie.Need-row-part-requires
 row-part-requires c κs = search needs
 
--- src/inner.rt:204:46
 cast-row-place : tie.Need-cast-row-place
 cast-row-place c = let s = c .before .before .before .before .before .before .before .before .before .before .before .before in omega (arith, s .pre .0 .bin, s .good)
 
--- src/inner.rt:204:9
 row-place-requires : tie.Need-row-place-requires
 row-place-requires c κs = search needs
 
--- src/inner.rt:205:5
 list-row-requires : tie.Need-list-row-requires
 list-row-requires c κs = let s = c .before .before .before .before .before .before .before .before .before .before .before .before .before .before .before .before .before .before in row-handed (gridAt s) (s .args .u .now) (s .args .r) _ (s .pre .0) _ _ _ _ _ (s .pre .1) (c .before .before .before .before .before .before .row-part .ensures)
 
--- src/inner.rt:180:1
 same-length : tie.Need-same-length
 same-length c = search needs
 
--- src/inner.rt:180:1
 same-length-2 : tie.Need-same-length-2
 same-length-2 c = search needs
 
--- src/inner.rt:180:1
 same-length-3 : tie.Need-same-length-3
 same-length-3 c = search needs
 
--- src/inner.rt:180:1
 same-length-4 : tie.Need-same-length-4
 same-length-4 c = search needs
 
--- src/inner.rt:180:1
 same-length-5 : tie.Need-same-length-5
 same-length-5 c = search needs
 
--- src/inner.rt:180:1
 returns : tie.Need-returns
 returns c = let s = c .before .before .before .before .before .before .before .before .before .before .before .before .before .before .before .before .before .before .before .before .before .before .before .before .before .before .before .before .before in
     let l = c .before .before .before .before .before .before .before .before .before .before in

@@ -44,61 +44,48 @@ ids c = let s = start c in
     let l = c .before .loop in
     turn-ids (gridAt s) (s .args .from) (s .args .to) _ (s .pre .0) (l .r) (l .n) (l .inv .5) (c .loop-test .taken) (l .inv .7 .count) (omega (arith, s .good))
 
--- src/inner.rt:250:5
 loop-holds : tie.Need-loop-holds Inv-loop μ-loop
 loop-holds c = let s = c .before .before .before .before .before .before .before .before .before .before .before in (refl, refl, refl, refl, refl, omega arith, omega arith, done-start asWords (gridAt s) (s .args .from) (s .args .out .now), refl)
 
--- src/inner.rt:251:18
 mul-at : tie.Need-mul-at Inv-loop μ-loop
 mul-at c = omega (arith, room c, c .before .loop .inv .0, start c .good)
 
--- src/inner.rt:252:26
 cast-id : tie.Need-cast-id Inv-loop μ-loop
 cast-id c = let h = ids c in search needs
 
--- src/inner.rt:252:18
 add-id : tie.Need-add-id Inv-loop μ-loop
 add-id c = let h = ids c in search needs
 
--- src/inner.rt:266:13
 mul-detect-row : tie.Need-mul-detect-row Inv-loop μ-loop
 mul-detect-row c = omega (arith, room c, c .before .loop .inv .0, start c .good)
 
--- src/inner.rt:266:13
 sub-detect-row : tie.Need-sub-detect-row Inv-loop μ-loop
 sub-detect-row c = let h = room c in search needs
 
--- src/inner.rt:266:13
 part-detect-row-start : tie.Need-part-detect-row-start Inv-loop μ-loop
 part-detect-row-start c = let h = room c in search needs
 
--- src/inner.rt:266:13
 part-detect-row-end : tie.Need-part-detect-row-end Inv-loop μ-loop
 part-detect-row-end c = search needs
 
--- src/inner.rt:253:14
 detect-row-requires : tie.Need-detect-row-requires Inv-loop μ-loop
 detect-row-requires c κs = let i = c .before .before .before .before .before in
     let s = start i in
     let l = i .before .loop in
     (turn-ready (gridAt s) (s .args .from) (s .args .to) _ (s .pre .0) (l .r) (l .n) (l .inv .5) (i .loop-test .taken) (l .inv .7 .count) (s .args .u .now) _ (s .pre .1) (rw (length-take, length-drop) (omega (arith, room i, l .inv .0))), rw (l .inv .1, l .inv .2, l .inv .3, l .inv .4) (s .pre .2))
 
--- src/inner.rt:253:9
 add-n : tie.Need-add-n Inv-loop μ-loop
 add-n c = let i = c .before .before .before .before .before .before .before .before .before .before .before .before .before .before .before .before in
     let s = start i in
     let b = listed-bound (numbered (gridAt s) (s .args .first + i .before .loop .n)) (i .before .loop .r) in
     omega (arith, most i, b, s .pre .0 .ids, c .before .before .before .before .before .before .before .before .before .before .detect-row .ensures .0 .count)
 
--- src/inner.rt:272:9
 add-r : tie.Need-add-r Inv-loop μ-loop
 add-r c = let i = c .before .before .before .before .before .before .before .before .before .before .before .before .before .before .before .before in omega (arith, i .loop-test .taken, start i .good)
 
--- src/inner.rt:250:5
 loop-less : tie.Need-loop-less Inv-loop μ-loop
 loop-less c = search needs
 
--- src/inner.rt:250:5
 loop-again : tie.Need-loop-again Inv-loop μ-loop
 loop-again c = let i = c .before .before .before .before .before .before .before .before .before .before .before .before .before .before .before .before in
     let s = start i in
@@ -107,27 +94,21 @@ loop-again c = let i = c .before .before .before .before .before .before .before
     let k = d .kept .1 .1 .1 .1 .1 .1 .1 .1 .1 .1 .1 .1 in
     (same-len-mid (l .n * size) (length (l .out) - l .n * size) (l .out) (d .last .1 .1 .1 .1 .1 .1 .1 .1 .1 .1 .1 .1 .0) (k .0) ∙ l .inv .0, k .1 .0 ∙ l .inv .1, k .1 .1 .0 ∙ l .inv .2, k .1 .1 .1 .0 ∙ l .inv .3, k .1 .1 .1 .1 .0 ∙ l .inv .4, omega arith, omega (arith, i .loop-test .taken), turn-done (gridAt s) (s .args .from) (s .args .to) _ (s .pre .0) (l .r) (l .n) (l .inv .5) (i .loop-test .taken) (l .inv .7 .count) asWords (s .args .out .now) (l .out) _ _ (l .inv .7) (d .ensures .0), d .ensures .1 ∙ l .inv .8)
 
--- src/inner.rt:224:1
 same-length : tie.Need-same-length Inv-loop μ-loop
 same-length c = search needs
 
--- src/inner.rt:224:1
 same-length-2 : tie.Need-same-length-2 Inv-loop μ-loop
 same-length-2 c = search needs
 
--- src/inner.rt:224:1
 same-length-3 : tie.Need-same-length-3 Inv-loop μ-loop
 same-length-3 c = search needs
 
--- src/inner.rt:224:1
 same-length-4 : tie.Need-same-length-4 Inv-loop μ-loop
 same-length-4 c = search needs
 
--- src/inner.rt:224:1
 same-length-5 : tie.Need-same-length-5 Inv-loop μ-loop
 same-length-5 c = search needs
 
--- src/inner.rt:224:1
 returns : tie.Need-returns Inv-loop μ-loop
 returns c = let s = c .before .before .before .before .before .before .before .before .before .before .before .before .before in
     let l = c .before .loop in

@@ -21,33 +21,27 @@ use Rattle.gridrows.proofs.sized.detect_in_1024.Reads as detect-in-1024
 use Rattle.gridrows.proofs.sized.detect_in_16384.Reads as detect-in-16384-reads
 use Rattle.smoothing.proofs.inner.normalise.Reads as normalise-reads
 
--- src/inner.rt:394:42
 array-borrow-prefix-u : tie.Need-array-borrow-prefix-u
 array-borrow-prefix-u c = let s = c .before .before .before .before .before .before .before in few-weights (s .args .weights .now) (s .pre .0 .weighed)
 
--- src/inner.rt:394:42
 slice-aggregate-normalise : tie.Need-slice-aggregate-normalise
 slice-aggregate-normalise c = let s = c .before .before .before .before .before .before .before .before in sym (length-take-le (length (s .args .weights .now)) _ (few-weights (s .args .weights .now) (s .pre .0 .weighed)))
 
--- src/inner.rt:394:5
 normalise-requires : tie.Need-normalise-requires
 normalise-requires c κs = let s = c .before .before .before .before .before .before .before .before in sym (length-take-le (length (s .args .weights .now)) _ (few-weights (s .args .weights .now) (s .pre .0 .weighed)))
 
--- src/inner.rt:408:13
 array-share-prefix-u : tie.Need-array-share-prefix-u
 array-share-prefix-u c = let p = c .before .before in
     let ws = c .before .before .before .before .before .before .before .before .before .before .before .args .weights .now in
     let e : length (p .normalise .last .1 .0) ≡ length ws = ap length (p .normalise .ensures) ∙ normalised-length ws in
     rw (length-append, e) (le-add-right (length ws) _)
 
--- src/inner.rt:408:13
 slice-aggregate-detect-in-1024 : tie.Need-slice-aggregate-detect-in-1024
 slice-aggregate-detect-in-1024 c = let p = c .before .before .before in
     let ws = c .before .before .before .before .before .before .before .before .before .before .before .before .args .weights .now in
     let e : length (p .normalise .last .1 .0) ≡ length ws = ap length (p .normalise .ensures) ∙ normalised-length ws in
     sym (ap length (take-at (p .normalise .last .1 .0) _ (length ws) e) ∙ e)
 
--- src/inner.rt:396:9
 detect-in-1024-requires : tie.Need-detect-in-1024-requires
 detect-in-1024-requires c κs = let p = c .before .before .before .before .before in
     let ws = c .before .before .before .before .before .before .before .before .before .before .before .before .before .before .args .weights .now in
@@ -55,33 +49,27 @@ detect-in-1024-requires c κs = let p = c .before .before .before .before .befor
     let s = c .before .before .before .before .before .before .before .before .before .before .before .before .before .before in
     (s .pre .0, take-at (p .normalise .last .1 .0) _ (length ws) e ∙ p .normalise .ensures, s .pre .1, c .before .before .before .if1 .taken)
 
--- src/inner.rt:396:9
 same-length : tie.Need-same-length
 same-length c = search needs
 
--- src/inner.rt:396:9
 same-length-2 : tie.Need-same-length-2
 same-length-2 c = search needs
 
--- src/inner.rt:396:9
 returns : tie.Need-returns
 returns c = c .before .before .before .before .detect-in-1024 .ensures
 
--- src/inner.rt:426:9
 array-share-prefix-u-2 : tie.Need-array-share-prefix-u-2
 array-share-prefix-u-2 c = let p = c .before .before in
     let ws = c .before .before .before .before .before .before .before .before .before .before .before .args .weights .now in
     let e : length (p .normalise .last .1 .0) ≡ length ws = ap length (p .normalise .ensures) ∙ normalised-length ws in
     rw (length-append, e) (le-add-right (length ws) _)
 
--- src/inner.rt:426:9
 slice-aggregate-detect-in-16384 : tie.Need-slice-aggregate-detect-in-16384
 slice-aggregate-detect-in-16384 c = let p = c .before .before .before in
     let ws = c .before .before .before .before .before .before .before .before .before .before .before .before .args .weights .now in
     let e : length (p .normalise .last .1 .0) ≡ length ws = ap length (p .normalise .ensures) ∙ normalised-length ws in
     sym (ap length (take-at (p .normalise .last .1 .0) _ (length ws) e) ∙ e)
 
--- src/inner.rt:414:5
 detect-in-16384-requires : tie.Need-detect-in-16384-requires
 detect-in-16384-requires c κs = let p = c .before .before .before .before .before in
     let ws = c .before .before .before .before .before .before .before .before .before .before .before .before .before .before .args .weights .now in
@@ -89,15 +77,12 @@ detect-in-16384-requires c κs = let p = c .before .before .before .before .befo
     let s = c .before .before .before .before .before .before .before .before .before .before .before .before .before .before in
     (s .pre .0, take-at (p .normalise .last .1 .0) _ (length ws) e ∙ p .normalise .ensures, s .pre .1, s .pre .2)
 
--- src/inner.rt:372:1
 same-length-3 : tie.Need-same-length-3
 same-length-3 c = search needs
 
--- src/inner.rt:372:1
 same-length-4 : tie.Need-same-length-4
 same-length-4 c = search needs
 
--- src/inner.rt:372:1
 returns-2 : tie.Need-returns-2
 returns-2 c = c .before .before .before .before .detect-in-16384 .ensures
 

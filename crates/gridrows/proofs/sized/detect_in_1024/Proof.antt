@@ -15,32 +15,25 @@ use Rattle.gridrows.proofs.sized.detect_in_1024.Reads as reads
 use Rattle.gridrows.proofs.sized.detect_in_1024.Lts as lts
 use Rattle.gridrows.proofs.rows.detect_rows.Reads as detect-rows-reads
 
--- src/inner.rt:318:9
 slice-aggregate-detect-rows : tie.Need-slice-aggregate-detect-rows
 slice-aggregate-detect-rows c = search needs
 
--- src/inner.rt:319:9
 slice-aggregate-detect-rows-2 : tie.Need-slice-aggregate-detect-rows-2
 slice-aggregate-detect-rows-2 c = search needs
 
--- src/inner.rt:320:9
 slice-aggregate-detect-rows-3 : tie.Need-slice-aggregate-detect-rows-3
 slice-aggregate-detect-rows-3 c = search needs
 
--- src/inner.rt:302:5
 detect-rows-requires : tie.Need-detect-rows-requires
 detect-rows-requires c κs = let s = c .before .before .before .before .before .before .before .before .before .before .before .before .before in
     (s .pre .0, s .pre .1, lent (s .args .cols) _ 1024 800 4096 (s .pre .2) (s .pre .3) (omega arith) (omega arith))
 
--- src/inner.rt:278:1
 same-length : tie.Need-same-length
 same-length c = search needs
 
--- src/inner.rt:278:1
 same-length-2 : tie.Need-same-length-2
 same-length-2 c = search needs
 
--- src/inner.rt:278:1
 returns : tie.Need-returns
 returns c = search needs
 

@@ -19,44 +19,36 @@ use Rattle.row.proofs.inner.list_in_1024.Reads as list-in-1024-reads
 use Rattle.row.proofs.inner.list_in_16384.Reads as list-in-16384-reads
 use Rattle.rowsearch.proofs.inner.reaches_floor.Reads as reaches-floor-reads
 
--- src/inner.rt:263:9
 reaches-floor-requires : tie.Need-reaches-floor-requires
 reaches-floor-requires c κs = search needs
 
--- src/inner.rt:264:9
 returns : tie.Need-returns
 returns c = let r = c .before in
     let s = r .before .before .before .before .before .before in
     let e = kept-low (s .args .p) (s .args .y .now) (s .args .z .now) (sym (r .reaches-floor .ensures) ∙ not-true (r .reaches-floor .result) (c .if1 .taken)) in
     (rw e, rw e (none-words (s .args .place) (s .args .bounds) (s .args .mobility .now) (s .args .axis .now) (s .args .y .now) (s .args .z .now) (s .args .first) (s .args .out .now)))
 
--- src/inner.rt:267:9
 list-in-1024-requires : tie.Need-list-in-1024-requires
 list-in-1024-requires c κs = let e = c .before .before in
     let r = e .before in
     let s = r .before .before .before .before .before .before in
     (s .pre .0, record { numbers = s .pre .1; floor = sym (r .reaches-floor .ensures) ∙ not-false (r .reaches-floor .result) (e .if1 .left) }, omega arith)
 
--- src/inner.rt:267:9
 same-length : tie.Need-same-length
 same-length c = search needs
 
--- src/inner.rt:267:9
 returns-2 : tie.Need-returns-2
 returns-2 c = search needs
 
--- src/inner.rt:269:5
 list-in-16384-requires : tie.Need-list-in-16384-requires
 list-in-16384-requires c κs = let e = c .before .before in
     let r = e .before in
     let s = r .before .before .before .before .before .before in
     (s .pre .0, record { numbers = s .pre .1; floor = sym (r .reaches-floor .ensures) ∙ not-false (r .reaches-floor .result) (e .if1 .left) }, omega arith)
 
--- src/inner.rt:248:1
 same-length-2 : tie.Need-same-length-2
 same-length-2 c = search needs
 
--- src/inner.rt:248:1
 returns-3 : tie.Need-returns-3
 returns-3 c = search needs
 

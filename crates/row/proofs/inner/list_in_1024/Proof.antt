@@ -15,28 +15,22 @@ use Rattle.row.proofs.inner.list_in_1024.Reads as reads
 use Rattle.row.proofs.inner.list_in_1024.Lts as lts
 use Rattle.row.proofs.inner.list_peaks.Reads as list-peaks-reads
 
--- src/inner.rt:205:9
 slice-aggregate-list-peaks : tie.Need-slice-aggregate-list-peaks
 slice-aggregate-list-peaks c = search needs
 
--- src/inner.rt:206:9
 slice-aggregate-list-peaks-2 : tie.Need-slice-aggregate-list-peaks-2
 slice-aggregate-list-peaks-2 c = search needs
 
--- src/inner.rt:207:9
 slice-aggregate-list-peaks-3 : tie.Need-slice-aggregate-list-peaks-3
 slice-aggregate-list-peaks-3 c = search needs
 
--- src/inner.rt:196:5
 list-peaks-requires : tie.Need-list-peaks-requires
 list-peaks-requires c κs = let s = c .before .before .before .before .before .before .before .before .before in
     (s .pre .0, searchable 1024 800 4096 (s .pre .0) (s .pre .1) (s .pre .2) (omega arith) (omega arith))
 
--- src/inner.rt:178:1
 same-length : tie.Need-same-length
 same-length c = search needs
 
--- src/inner.rt:178:1
 returns : tie.Need-returns
 returns c = search needs
 

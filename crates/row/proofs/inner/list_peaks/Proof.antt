@@ -23,30 +23,24 @@ start f = f .before .before .before .before .before .before .before .before .bef
 find-apexes-requires : tie.Need-find-apexes-requires
 find-apexes-requires c κs = c .before .before .before .before .before .before .before .before .before .before .before .pre .1
 
--- src/inner.rt:162:5
 put-peaks-requires : tie.Need-put-peaks-requires
 put-peaks-requires c κs = let f = c .before .before .before .before .before .before .before .before in
     let s = start f in
     let d = f .find-apexes .ensures in
     (s .pre .0, omega (arith, d .count, kept-count (s .args .p) (s .args .y .now) (s .args .z .now)), (kept (s .args .p) (s .args .y .now) (s .args .z .now), d))
 
--- src/inner.rt:143:1
 same-length : tie.Need-same-length
 same-length c = search needs
 
--- src/inner.rt:143:1
 same-length-2 : tie.Need-same-length-2
 same-length-2 c = search needs
 
--- src/inner.rt:143:1
 same-length-3 : tie.Need-same-length-3
 same-length-3 c = search needs
 
--- src/inner.rt:143:1
 same-length-4 : tie.Need-same-length-4
 same-length-4 c = search needs
 
--- src/inner.rt:143:1
 returns : tie.Need-returns
 returns c = let w = c .before .before in
     let f = w .before .before .before .before .before .before .before .before .before in

@@ -16,35 +16,27 @@ use Rattle.row.proofs.inner.mobility_at.Reads as mobility-at-reads
 use Rattle.row.proofs.inner.mobility_flag.Reads as mobility-flag-reads
 use Rattle.row.proofs.inner.scan_at.Reads as scan-at-reads
 
--- src/inner.rt:88:15
 scan-at-requires : tie.Need-scan-at-requires
 scan-at-requires c κs = search needs
 
--- src/inner.rt:89:29
 cast-scan-at : tie.Need-cast-scan-at
 cast-scan-at c = search needs
 
--- src/inner.rt:89:15
 scan-at-requires-2 : tie.Need-scan-at-requires-2
 scan-at-requires-2 c κs = search needs
 
--- src/inner.rt:90:30
 cast-scan-at-2 : tie.Need-cast-scan-at-2
 cast-scan-at-2 c = search needs
 
--- src/inner.rt:90:16
 scan-at-requires-3 : tie.Need-scan-at-requires-3
 scan-at-requires-3 c κs = search needs
 
--- src/inner.rt:91:19
 mobility-at-requires : tie.Need-mobility-at-requires
 mobility-at-requires c κs = search needs
 
--- src/inner.rt:92:15
 mobility-flag-requires : tie.Need-mobility-flag-requires
 mobility-flag-requires c κs = search needs
 
--- src/inner.rt:83:1
 returns : tie.Need-returns
 returns c = rw (c .mobility-flag .ensures, c .before .mobility-at .ensures, c .before .before .scan-at3 .ensures, c .before .before .before .before .scan-at2 .ensures, c .before .before .before .before .before .before .scan-at .ensures)
 

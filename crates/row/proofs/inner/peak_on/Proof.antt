@@ -17,43 +17,33 @@ use Rattle.row.proofs.inner.group_flag.Reads as group-flag-reads
 use Rattle.row.proofs.inner.group_word.Reads as group-word-reads
 use Rattle.row.proofs.inner.subscan_of.Reads as subscan-of-reads
 
--- src/inner.rt:120:16
 group-flag-requires : tie.Need-group-flag-requires
 group-flag-requires c κs = search needs
 
--- src/inner.rt:120:16
 add-t11 : tie.Need-add-t11
 add-t11 c = let s = c .before .before .before .before in omega (arith, c .before .group-flag .ensures, group-flag-le (s .args .bounds .«window_group»), s .pre .4)
 
--- src/inner.rt:121:23
 group-word-requires : tie.Need-group-word-requires
 group-word-requires c κs = search needs
 
--- src/inner.rt:122:15
 cast-t13 : tie.Need-cast-t13
 cast-t13 c = search needs
 
--- src/inner.rt:130:24
 mul-t14 : tie.Need-mul-t14
 mul-t14 c = search needs
 
--- src/inner.rt:130:24
 shared-slice-read-t16 : tie.Need-shared-slice-read-t16
 shared-slice-read-t16 c = search needs
 
--- src/inner.rt:131:19
 mul-t17 : tie.Need-mul-t17
 mul-t17 c = search needs
 
--- src/inner.rt:131:19
 shared-slice-read-t19 : tie.Need-shared-slice-read-t19
 shared-slice-read-t19 c = search needs
 
--- src/inner.rt:137:18
 subscan-of-requires : tie.Need-subscan-of-requires
 subscan-of-requires c κs = search needs
 
--- src/inner.rt:97:1
 returns : tie.Need-returns
 returns c = let s = c .before .before .before .before .before .before .before .before in
     (λ mobility axis inside e. peak-is (s .args .place) (s .args .bounds) mobility axis (s .args .y .now) (s .args .z .now) (s .args .a) (s .args .id) inside (s .args .on) _ _ _ e (rw (c .before .before .before .before .before .group-flag .ensures)) (c .before .before .before .group-word .ensures) (c .subscan-of .ensures))

@@ -32,21 +32,17 @@ loop-holds : tie.Need-loop-holds Inv-loop μ-loop
 loop-holds c = let s = c .before .before .before .before .before .before in
     (omega arith, refl, (λ ks h. rw (none-yet ks) (listed-none (s .args .place) (s .args .bounds) (s .args .mobility .now) (s .args .axis .now) (s .args .y .now) (s .args .z .now) (s .args .first) asWords (s .args .out .now))))
 
--- src/inner.rt:135:13
 measured-at-requires : tie.Need-measured-at-requires Inv-loop μ-loop
 measured-at-requires c κs = let s = c .before .before .before .before .before .before .before .before in
     let r = s .pre .2 .1 .room in omega arith
 
--- src/inner.rt:136:76
 cast-peak-of : tie.Need-cast-peak-of Inv-loop μ-loop
 cast-peak-of c = search needs
 
--- src/inner.rt:136:68
 add-peak-of : tie.Need-add-peak-of Inv-loop μ-loop
 add-peak-of c = let s = c .before .before .before .before .before .before .before .before .before in
     let i = s .pre .0 .ids in let few = s .pre .1 in omega arith
 
--- src/inner.rt:136:13
 peak-of-requires : tie.Need-peak-of-requires Inv-loop μ-loop
 peak-of-requires c κs = let l = c .before .before in
     let s = l .before .before .before .before .before .before .before in
@@ -55,23 +51,19 @@ peak-of-requires c κs = let l = c .before .before in
     read-inside (s .args .y .now) (s .args .z .now) (s .args .axis .now) (s .args .found .now) (s .pre .2 .0) (l .loop .j) (c .measured-at .result)
     (next (s .args .y .now) (s .args .z .now) (s .args .found .now) (s .pre .2 .0) (l .loop .j) (omega (arith, t .count)) (t .stand)) (c .measured-at .ensures) (r .raw) (r .scans) (r .short)
 
--- src/inner.rt:137:9
 put-peak-requires : tie.Need-put-peak-requires Inv-loop μ-loop
 put-peak-requires c κs = let l = c .before .before .before .before in
     let s = l .before .before .before .before .before .before .before in
     let w = s .pre .0 .words in let few = s .pre .1 in let e = l .loop .inv .1 in omega arith
 
--- src/inner.rt:134:9
 add-j : tie.Need-add-j Inv-loop μ-loop
 add-j c = let l = c .before .before .before .before .before .before .before in
     let s = l .before .before .before .before .before .before .before in
     let few = s .pre .1 in omega (arith, s .pre .0 .short)
 
--- src/inner.rt:134:5
 loop-less : tie.Need-loop-less Inv-loop μ-loop
 loop-less c = search needs
 
--- src/inner.rt:134:5
 loop-again : tie.Need-loop-again Inv-loop μ-loop
 loop-again c = let w = c .before .before in
     let k = w .before .before in
@@ -90,11 +82,9 @@ loop-again c = let w = c .before .before in
           (w .put-peak .ensures ∙ put-words (l .loop .out) j (k .peak-of .result))),
     )
 
--- src/inner.rt:119:1
 same-length : tie.Need-same-length Inv-loop μ-loop
 same-length c = search needs
 
--- src/inner.rt:119:1
 returns : tie.Need-returns Inv-loop μ-loop
 returns c = let l = c .before in
     let s = l .before .before .before .before .before .before .before in

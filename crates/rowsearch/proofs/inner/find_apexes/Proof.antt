@@ -20,14 +20,12 @@ use Rattle.numeric.proofs.inner.all_fit.Reads as all-fit-reads
 use Rattle.rowsearch.proofs.inner.keep_all.Reads as keep-all-reads
 use Rattle.sweep.proofs.inner.find.Reads as find-reads
 
--- src/inner.rt:231:5
 abbrev start : tie.After-find → tie.Start
 start f = f .before .before .before .before .before .before .before .before .before .before
 
 all-fit-requires : tie.Need-all-fit-requires
 all-fit-requires c κs = search needs
 
--- src/inner.rt:232:9
 find-requires : tie.Need-find-requires
 find-requires c κs = let a = c .before .before .before in
     let s = a .before .before .before .before .before .before in
@@ -40,7 +38,6 @@ find-requires c κs = let a = c .before .before .before in
       stack-long = let l = r .found-long in omega arith;
     }
 
--- src/inner.rt:234:5
 keep-all-requires : tie.Need-keep-all-requires
 keep-all-requires c κs = let f = c .before .before .before .before .before .before .before .before .before in
     let s = start f in
@@ -49,19 +46,15 @@ keep-all-requires c κs = let f = c .before .before .before .before .before .bef
     let l = s .pre .room .found-long in
     (f .find .ensures, s .pre .short, omega (arith, s .pre .raw, s .pre .short), omega arith)
 
--- src/inner.rt:220:1
 same-length : tie.Need-same-length
 same-length c = search needs
 
--- src/inner.rt:220:1
 same-length-2 : tie.Need-same-length-2
 same-length-2 c = search needs
 
--- src/inner.rt:220:1
 same-length-3 : tie.Need-same-length-3
 same-length-3 c = search needs
 
--- src/inner.rt:220:1
 returns : tie.Need-returns
 returns c = let k = c .before .before .before .before in
     let f = k .before .before .before .before .before .before .before .before .before .before in

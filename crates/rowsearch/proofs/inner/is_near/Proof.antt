@@ -14,15 +14,12 @@ use Rattle.rowsearch.proofs.inner.is_near.Tie as tie
 use Rattle.rowsearch.proofs.inner.is_near.Reads as reads
 use Rattle.rowsearch.proofs.inner.is_near.Lts as lts
 
--- src/inner.rt:123:9
 returns : tie.Need-returns
 returns c = let s = c .before in rw (le-ltb 0 (s .args .count) (omega arith))
 
--- src/inner.rt:125:5
 sub-result : tie.Need-sub-result
 sub-result c = let h = c .before .pre (omega arith) in omega arith
 
--- src/inner.rt:118:1
 returns-2 : tie.Need-returns-2
 returns-2 c = let s = c .before in rw (lt-ltb 0 (s .args .count) (omega arith))
 

@@ -29,61 +29,47 @@ Inv-loop y z turns bases₀ m p found₀ s₀ k₀ bases found s k = (k ≤ m) �
 abbrev μ-loop : tie.MeasureT-loop
 μ-loop y z turns bases₀ m p found₀ s₀ k₀ bases found s k = m - k
 
--- src/inner.rt:210:5
 loop-holds : tie.Need-loop-holds Inv-loop μ-loop
 loop-holds c = let s = c .before .before .before .before .before in
     let a = s .args in
     (omega arith, refl, λ j h. refl, refl, memo-none _ _ _ _, keeps-none (a .y .now) (a .z .now) (a .found .now) (a .p) (a .turns .now))
 
--- src/inner.rt:211:32
 mul-index-of : tie.Need-mul-index-of Inv-loop μ-loop
 mul-index-of c = search needs
 
--- src/inner.rt:211:32
 add-index-of : tie.Need-add-index-of Inv-loop μ-loop
 add-index-of c = search needs
 
--- src/inner.rt:211:26
 mul-index-of-2 : tie.Need-mul-index-of-2 Inv-loop μ-loop
 mul-index-of-2 c = search needs
 
--- src/inner.rt:211:26
 shared-slice-read-index-of : tie.Need-shared-slice-read-index-of Inv-loop μ-loop
 shared-slice-read-index-of c = search needs
 
--- src/inner.rt:211:13
 index-of-requires : tie.Need-index-of-requires Inv-loop μ-loop
 index-of-requires c κs = search needs
 
--- src/inner.rt:212:38
 mul-float-of : tie.Need-mul-float-of Inv-loop μ-loop
 mul-float-of c = search needs
 
--- src/inner.rt:212:38
 slice-read-float-of : tie.Need-slice-read-float-of Inv-loop μ-loop
 slice-read-float-of c = search needs
 
--- src/inner.rt:212:13
 float-of-requires : tie.Need-float-of-requires Inv-loop μ-loop
 float-of-requires c κs = search needs
 
--- src/inner.rt:213:44
 mul-keep-next : tie.Need-mul-keep-next Inv-loop μ-loop
 mul-keep-next c = search needs
 
--- src/inner.rt:213:44
 sub-keep-next : tie.Need-sub-keep-next Inv-loop μ-loop
 sub-keep-next c = search needs
 
--- src/inner.rt:213:44
 part-keep-next-start : tie.Need-part-keep-next-start Inv-loop μ-loop
 part-keep-next-start c = search needs
 
--- src/inner.rt:213:44
 part-keep-next-end : tie.Need-part-keep-next-end Inv-loop μ-loop
 part-keep-next-end c = search needs
 
--- src/inner.rt:213:9
 keep-next-requires : tie.Need-keep-next-requires Inv-loop μ-loop
 keep-next-requires c κs = let i = c .before .before .before .before in
     let l = i .before .before .before in
@@ -108,15 +94,12 @@ keep-next-requires c κs = let i = c .before .before .before .before in
       (λ h. let b = inv .5 .behind h in omega arith),
     )
 
--- src/inner.rt:210:9
 add-k : tie.Need-add-k Inv-loop μ-loop
 add-k c = search needs
 
--- src/inner.rt:210:5
 loop-less : tie.Need-loop-less Inv-loop μ-loop
 loop-less c = search needs
 
--- src/inner.rt:210:5
 loop-again : tie.Need-loop-again Inv-loop μ-loop
 loop-again c = let n = c .before .before .before .before in
     let f = n .before .before .before in
@@ -144,15 +127,12 @@ loop-again c = let n = c .before .before .before .before in
       rw (after-step turns k, kept-of-step (s .args .p) y turns k, ← e) (r .1 (keptOf (s .args .p) y turns k) before),
     )
 
--- src/inner.rt:193:1
 same-length : tie.Need-same-length Inv-loop μ-loop
 same-length c = search needs
 
--- src/inner.rt:193:1
 same-length-2 : tie.Need-same-length-2 Inv-loop μ-loop
 same-length-2 c = search needs
 
--- src/inner.rt:193:1
 returns : tie.Need-returns Inv-loop μ-loop
 returns c = let l = c .before in
     let s = l .before .before .before .before .before .before in

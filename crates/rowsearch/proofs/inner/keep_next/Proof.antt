@@ -35,76 +35,60 @@ width-seen l v h =
 earlier : (n : tie.After-is-near) → n .is-near .result ≡ true → start n .args .s .last < start n .args .i
 earlier n h = start n .pre .3 (counted (n .is-near .result) (start n .args .s .count) (ltb (start n .args .i - start n .args .s .last) (start n .args .p .«min_distance_scans»)) (n .is-near .ensures) h)
 
--- src/inner.rt:153:22
 mul-prominence : tie.Need-mul-prominence
 mul-prominence c = search needs
 
--- src/inner.rt:153:22
 shared-slice-read-prominence : tie.Need-shared-slice-read-prominence
 shared-slice-read-prominence c = search needs
 
--- src/inner.rt:155:9
 returns : tie.Need-returns
 returns c = let s = c .before .before .before .before .before .before .before in
     let a = s .pre .0 in
     (memo-later (s .args .y .now) (s .args .z .now) (s .args .memo .now) (s .args .s .depth) (s .args .i) (s .args .i + 1) (omega arith) (s .pre .1), unkept (s .args .p) (s .args .s) refl refl (too-low (s .args .p) (s .args .y .now) (s .args .i) (s .args .base) (a .base-is) (c .if1 .taken)))
 
--- src/inner.rt:157:9
 is-near-requires : tie.Need-is-near-requires
 is-near-requires c κs = search needs
 
--- src/inner.rt:159:12
 mul-if3 : tie.Need-mul-if3
 mul-if3 c = search needs
 
--- src/inner.rt:159:12
 shared-slice-read-if3 : tie.Need-shared-slice-read-if3
 shared-slice-read-if3 c = search needs
 
--- src/inner.rt:159:20
 mul-if3-2 : tie.Need-mul-if3-2
 mul-if3-2 c = let h = earlier (c .before .before) (c .before .if2 .taken) in omega arith
 
--- src/inner.rt:159:20
 shared-slice-read-if3-2 : tie.Need-shared-slice-read-if3-2
 shared-slice-read-if3-2 c = let h = earlier (c .before .before .before) (c .before .before .if2 .taken) in omega arith
 
--- src/inner.rt:160:13
 returns-2 : tie.Need-returns-2
 returns-2 c = let n = c .before .before .before .before in
     let s = start n in
     (memo-later (s .args .y .now) (s .args .z .now) (s .args .memo .now) (s .args .s .depth) (s .args .i) (s .args .i + 1) (omega arith) (s .pre .1), blocked (s .args .p) (sym (n .is-near .ensures) ∙ c .before .before .before .if2 .taken) (c .if3 .taken))
 
--- src/inner.rt:163:9
 look-at-requires : tie.Need-look-at-requires
 look-at-requires c κs = let s = start (c .before .before) in (omega (arith, s .pre .0 .high), s .pre .0 .short, s .pre .0 .raw-short, s .pre .1)
 
--- src/inner.rt:174:13
 place-for-requires : tie.Need-place-for-requires
 place-for-requires c κs = let n = c .before .before .before .before .before .before in
     λ h. counted (n .is-near .result) (start n .args .s .count) (ltb (start n .args .i - start n .args .s .last) (start n .args .p .«min_distance_scans»)) (n .is-near .ensures) h
 
--- src/inner.rt:176:9
 put-measured-requires : tie.Need-put-measured-requires
 put-measured-requires c κs = let f = c .before .before in
     let s = start (f .before .before .before .before .before .before .before) in
     let h = placed f in (omega (arith, s .pre .2), omega (arith, s .pre .0 .high, s .pre .0 .short))
 
--- src/inner.rt:191:20
 add-t35 : tie.Need-add-t35
 add-t35 c = let f = c .before .before .before .before .before in
     let s = start (f .before .before .before .before .before .before .before) in
     let h = placed f in omega (arith, s .pre .2)
 
--- src/inner.rt:190:9
 same-length : tie.Need-same-length
 same-length c = search needs
 
--- src/inner.rt:190:9
 same-length-2 : tie.Need-same-length-2
 same-length-2 c = search needs
 
--- src/inner.rt:190:9
 returns-3 : tie.Need-returns-3
 returns-3 c = let w = c .before .before in
     let f = w .before .before .before in
@@ -130,11 +114,9 @@ returns-3 c = let w = c .before .before in
           ks k)),
     )
 
--- src/inner.rt:138:1
 same-length-3 : tie.Need-same-length-3
 same-length-3 c = search needs
 
--- src/inner.rt:138:1
 returns-4 : tie.Need-returns-4
 returns-4 c = let l = c .before .before .before in
     let n = l .before .before .before in

@@ -17,123 +17,93 @@ use Rattle.rowsearch.proofs.inner.measured_at.Lts as lts
 use Rattle.numeric.proofs.float_of.Reads as float-of-reads
 use Rattle.rowsearch.proofs.inner.index_of.Reads as index-of-reads
 
--- src/inner.rt:84:14
 mul-at : tie.Need-mul-at
 mul-at c = search needs
 
--- src/inner.rt:86:25
 mul-index-of : tie.Need-mul-index-of
 mul-index-of c = search needs
 
--- src/inner.rt:86:25
 shared-slice-read-index-of : tie.Need-shared-slice-read-index-of
 shared-slice-read-index-of c = search needs
 
--- src/inner.rt:86:16
 index-of-requires : tie.Need-index-of-requires
 index-of-requires c κs = search needs
 
--- src/inner.rt:87:21
 add-t8 : tie.Need-add-t8
 add-t8 c = search needs
 
--- src/inner.rt:87:15
 mul-t9 : tie.Need-mul-t9
 mul-t9 c = search needs
 
--- src/inner.rt:87:15
 shared-slice-read-t11 : tie.Need-shared-slice-read-t11
 shared-slice-read-t11 c = search needs
 
--- src/inner.rt:88:22
 add-t12 : tie.Need-add-t12
 add-t12 c = search needs
 
--- src/inner.rt:88:16
 mul-t13 : tie.Need-mul-t13
 mul-t13 c = search needs
 
--- src/inner.rt:88:16
 shared-slice-read-t15 : tie.Need-shared-slice-read-t15
 shared-slice-read-t15 c = search needs
 
--- src/inner.rt:89:22
 add-t16 : tie.Need-add-t16
 add-t16 c = search needs
 
--- src/inner.rt:89:16
 mul-t17 : tie.Need-mul-t17
 mul-t17 c = search needs
 
--- src/inner.rt:89:16
 shared-slice-read-t19 : tie.Need-shared-slice-read-t19
 shared-slice-read-t19 c = search needs
 
--- src/inner.rt:90:45
 add-float-of : tie.Need-add-float-of
 add-float-of c = search needs
 
--- src/inner.rt:90:39
 mul-float-of : tie.Need-mul-float-of
 mul-float-of c = search needs
 
--- src/inner.rt:90:39
 shared-slice-read-float-of : tie.Need-shared-slice-read-float-of
 shared-slice-read-float-of c = search needs
 
--- src/inner.rt:90:21
 float-of-requires : tie.Need-float-of-requires
 float-of-requires c κs = search needs
 
--- src/inner.rt:91:41
 add-float-of-2 : tie.Need-add-float-of-2
 add-float-of-2 c = search needs
 
--- src/inner.rt:91:35
 mul-float-of-2 : tie.Need-mul-float-of-2
 mul-float-of-2 c = search needs
 
--- src/inner.rt:91:35
 shared-slice-read-float-of-2 : tie.Need-shared-slice-read-float-of-2
 shared-slice-read-float-of-2 c = search needs
 
--- src/inner.rt:91:17
 float-of-requires-2 : tie.Need-float-of-requires-2
 float-of-requires-2 c κs = search needs
 
--- src/inner.rt:92:42
 add-float-of-3 : tie.Need-add-float-of-3
 add-float-of-3 c = search needs
 
--- src/inner.rt:92:36
 mul-float-of-3 : tie.Need-mul-float-of-3
 mul-float-of-3 c = search needs
 
--- src/inner.rt:92:36
 shared-slice-read-float-of-3 : tie.Need-shared-slice-read-float-of-3
 shared-slice-read-float-of-3 c = search needs
 
--- src/inner.rt:92:18
 float-of-requires-3 : tie.Need-float-of-requires-3
 float-of-requires-3 c κs = search needs
 
--- src/inner.rt:93:39
 add-float-of-4 : tie.Need-add-float-of-4
 add-float-of-4 c = search needs
 
--- src/inner.rt:93:33
 mul-float-of-4 : tie.Need-mul-float-of-4
 mul-float-of-4 c = search needs
 
--- src/inner.rt:93:33
 shared-slice-read-float-of-4 : tie.Need-shared-slice-read-float-of-4
 shared-slice-read-float-of-4 c = search needs
 
--- src/inner.rt:93:15
 float-of-requires-4 : tie.Need-float-of-requires-4
 float-of-requires-4 c κs = search needs
 
--- src/inner.rt:80:1
 returns : tie.Need-returns
 unfolding measuredFrom
 returns c = let f4 = c in

@@ -13,15 +13,12 @@ use Rattle.rowsearch.proofs.inner.place_for.Tie as tie
 use Rattle.rowsearch.proofs.inner.place_for.Reads as reads
 use Rattle.rowsearch.proofs.inner.place_for.Lts as lts
 
--- src/inner.rt:133:15
 sub-result : tie.Need-sub-result
 sub-result c = let h = c .before .pre (c .if1 .taken) in omega arith
 
--- src/inner.rt:129:1
 returns : tie.Need-returns
 returns c = rw (c .if1 .taken)
 
--- src/inner.rt:129:1
 returns-2 : tie.Need-returns-2
 returns-2 c = rw (c .if1 .left)
 

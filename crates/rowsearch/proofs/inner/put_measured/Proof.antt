@@ -16,35 +16,27 @@ use Rattle.rowsearch.proofs.inner.put_measured.Reads as reads
 use Rattle.rowsearch.proofs.inner.put_measured.Lts as lts
 use Rattle.rowsearch.proofs.inner.put_words.Reads as put-words-reads
 
--- src/inner.rt:69:14
 mul-at : tie.Need-mul-at
 mul-at c = search needs
 
--- src/inner.rt:70:15
 mul-put-words : tie.Need-mul-put-words
 mul-put-words c = search needs
 
--- src/inner.rt:70:15
 sub-put-words : tie.Need-sub-put-words
 sub-put-words c = search needs
 
--- src/inner.rt:70:15
 part-put-words-start : tie.Need-part-put-words-start
 part-put-words-start c = search needs
 
--- src/inner.rt:70:15
 part-put-words-end : tie.Need-part-put-words-end
 part-put-words-end c = search needs
 
--- src/inner.rt:70:5
 put-words-requires : tie.Need-put-words-requires
 put-words-requires c κs = search needs
 
--- src/inner.rt:65:1
 same-length : tie.Need-same-length
 same-length c = search needs
 
--- src/inner.rt:65:1
 returns : tie.Need-returns
 unfolding withMeasured
 returns c = let s = c .before .before .before .before .before in

@@ -16,63 +16,48 @@ use Rattle.rowsearch.proofs.inner.put_words.Reads as reads
 use Rattle.rowsearch.proofs.inner.put_words.Lts as lts
 use Rattle.numeric.proofs.word_of.Reads as word-of-reads
 
--- src/inner.rt:54:14
 cast-out : tie.Need-cast-out
 cast-out c = search needs
 
--- src/inner.rt:54:5
 slice-write-out : tie.Need-slice-write-out
 slice-write-out c = search needs
 
--- src/inner.rt:55:5
 slice-write-out-2 : tie.Need-slice-write-out-2
 slice-write-out-2 c = simp length-set (omega arith)
 
--- src/inner.rt:56:5
 slice-write-out-3 : tie.Need-slice-write-out-3
 slice-write-out-3 c = simp length-set (omega arith)
 
--- src/inner.rt:57:5
 slice-write-out-4 : tie.Need-slice-write-out-4
 slice-write-out-4 c = simp length-set (omega arith)
 
--- src/inner.rt:58:14
 word-of-requires : tie.Need-word-of-requires
 word-of-requires c κs = search needs
 
--- src/inner.rt:58:5
 slice-write-out-5 : tie.Need-slice-write-out-5
 slice-write-out-5 c = simp length-set (omega arith)
 
--- src/inner.rt:59:14
 word-of-requires-2 : tie.Need-word-of-requires-2
 word-of-requires-2 c κs = search needs
 
--- src/inner.rt:59:5
 slice-write-out-6 : tie.Need-slice-write-out-6
 slice-write-out-6 c = simp length-set (omega arith)
 
--- src/inner.rt:60:14
 word-of-requires-3 : tie.Need-word-of-requires-3
 word-of-requires-3 c κs = search needs
 
--- src/inner.rt:60:5
 slice-write-out-7 : tie.Need-slice-write-out-7
 slice-write-out-7 c = simp length-set (omega arith)
 
--- src/inner.rt:61:14
 word-of-requires-4 : tie.Need-word-of-requires-4
 word-of-requires-4 c κs = search needs
 
--- src/inner.rt:61:5
 slice-write-out-8 : tie.Need-slice-write-out-8
 slice-write-out-8 c = simp length-set (omega arith)
 
--- src/inner.rt:50:1
 same-length : tie.Need-same-length
 same-length c = search needs
 
--- src/inner.rt:50:1
 returns : tie.Need-returns
 returns c = let w3 = c .before in
     let w2 = w3 .before in

@@ -18,15 +18,12 @@ use Rattle.wordbytes.proofs.inner.axis_up_to.Lts as lts
 use Rattle.wordbytes.proofs.inner.all_words_up_to.Reads as all-words-up-to-reads
 use Rattle.wordbytes.proofs.inner.word_at.Reads as word-at-reads
 
--- src/inner.rt:115:31
 sub-word-at : tie.Need-sub-word-at
 sub-word-at c = search needs
 
--- src/inner.rt:115:20
 word-at-requires : tie.Need-word-at-requires
 word-at-requires c κs = search needs
 
--- src/inner.rt:115:13
 returns : tie.Need-returns
 returns c = let s = c .before .before .before .before in
     let b = s .args .b .now in
@@ -34,11 +31,9 @@ returns c = let s = c .before .before .before .before in
     let e = word-get b (length b / 4) (length b / 4 - 1) (omega arith) in
     sym (rising-up-to (s .args .limit) (wordsOf b) (length b / 4) l (omega arith) (sym (s .pre) ∙ c .before .before .if1 .taken) ∙ ap (λ (w : ℕ). leb w (s .args .limit)) (e ∙ sym (c .word-at .ensures)))
 
--- src/inner.rt:118:5
 all-words-up-to-requires : tie.Need-all-words-up-to-requires
 all-words-up-to-requires c κs = search needs
 
--- src/inner.rt:108:1
 returns-2 : tie.Need-returns-2
 returns-2 c = search needs
 
