@@ -5,15 +5,9 @@ use Rattle.limits.specs.Limits.{maxSamples}
 use Rattle.params.specs.declared.ImDetectParams.{ImDetectParams}
 use Rattle.params.specs.declared.FrameBounds.{FrameBounds}
 use Rattle.tof.specs.declared.TofScale.{TofScale}
-use Rattle.row.specs.Written.{Written}
 use Rattle.gridrows.specs.Grid.{Grid}
 use Rattle.gridrows.specs.Steps.{gridOf, Ready}
-use Rattle.wordbytes.specs.Bytes.{wordsOf, floatsOf, bytesOf}
-use Rattle.wordbytes.proofs.BytesLaws.{bytes-append, bytes-length}
-
--- words written as four bytes each
-abbrev pub asBytes : Written
-asBytes = record { unit = 4; put = bytesOf; joined = bytes-append; long = bytes-length }
+use Rattle.wordbytes.specs.Bytes.{wordsOf, floatsOf}
 
 -- the grid of lists in bytes
 abbrev pub byteGrid : ℕ → List ℕ → List ℕ → TofScale → FrameBounds → List ℕ → ImDetectParams → List ℕ → ℕ → Grid

@@ -1,5 +1,3 @@
-// Detection over a grid in bytes that the caller has checked.
-pub mod records;
-pub mod rows;
+// Detection over a grid in bytes that the caller has checked: weights, and local lists of lengths that fit.
 pub mod sized;
 pub mod weighed;

@@ -7,7 +7,8 @@ use tof::TofScale;
 ghost use Prim.Native.Nat.{_≤_, _<_, _+_, _*_, _/_};
 ghost use lib.ListN.{length};
 ghost use Rattle.gridrows.specs.Steps.{Done};
-ghost use Rattle.bytegrid.specs.ByteGrid.{asBytes, byteGrid};
+ghost use Rattle.byterows.specs.AsBytes.{asBytes};
+ghost use Rattle.bytegrid.specs.ByteGrid.{byteGrid};
 ghost use Rattle.bytegrid.specs.ByteGrid.{Fit};
 
 // Rows that are worked through in one part.

@@ -9,7 +9,8 @@ ghost use Prim.Native.Nat.{_≤_, _/_};
 ghost use lib.ListN.{length};
 ghost use Rattle.gridrows.specs.Steps.{gridOf, Lent, Ready, Done};
 ghost use Rattle.wordbytes.specs.Bytes.{wordsOf, floatsOf};
-ghost use Rattle.bytegrid.specs.ByteGrid.{asBytes, byteGrid};
+ghost use Rattle.byterows.specs.AsBytes.{asBytes};
+ghost use Rattle.bytegrid.specs.ByteGrid.{byteGrid};
 
 // The records of the peaks of the rows from `from` to `to`, for weights in bytes, which are divided by their sum once.
 fn detect_smoothed(
@@ -39,7 +40,7 @@ fn detect_smoothed(
     let mut u = [0f32; limits::MAX_WEIGHTS];
     wordbytes::inner::decode_floats(weights, 0, &mut ws[..m]);
     smoothing::inner::normalise(&ws[..m], &mut u[..m]);
-    super::rows::detect_rows(
+    byterows::rows::detect_rows(
         from,
         to,
         cols,
@@ -85,7 +86,7 @@ fn detect_plain(
 {
     let none = [0f32; 1];
     let none_divided = [0f32; 1];
-    super::rows::detect_rows(
+    byterows::rows::detect_rows(
         from,
         to,
         cols,

@@ -18,7 +18,7 @@ use Rattle.gridrows.specs.Grid.{Grid, countTo}
 use Rattle.grid.specs.GridNumber.{gridChecks, gridNumber}
 use Rattle.gridrows.specs.Steps.{Done}
 use Rattle.grid.proofs.Laws as grid
-use Rattle.bytegrid.specs.ByteGrid.{asBytes}
+use Rattle.byterows.specs.AsBytes.{asBytes}
 use Rattle.capi.specs.Entry.{also, entryChecks, entryNumber, EntryLowest, Answered}
 use Rattle.bytegrid.specs.ByteGrid.{Fit}
 

@@ -16,7 +16,7 @@ use Rattle.row.specs.Written.{stride}
 use Rattle.gridrows.specs.Grid.{Grid, countTo, wordsTo}
 use Rattle.grid.specs.GridNumber.{gridChecks}
 use Rattle.wordbytes.specs.Bytes.{bytesOf}
-use Rattle.bytegrid.specs.ByteGrid.{asBytes}
+use Rattle.byterows.specs.AsBytes.{asBytes}
 
 -- ---- the number
 

@@ -13,7 +13,7 @@ use Rattle.bytegrid.proofs.weighed.detect_plain.Statement.{statement}
 use Rattle.bytegrid.proofs.weighed.detect_plain.Tie as tie
 use Rattle.bytegrid.proofs.weighed.detect_plain.Reads as reads
 use Rattle.bytegrid.proofs.weighed.detect_plain.Lts as lts
-use Rattle.bytegrid.proofs.rows.detect_rows.Reads as detect-rows-reads
+use Rattle.byterows.proofs.rows.detect_rows.Reads as detect-rows-reads
 
 array-share-prefix-none : tie.Need-array-share-prefix-none
 array-share-prefix-none c = search needs

@@ -8,7 +8,7 @@ use Rattle.wordbytes.proofs.BytesLaws.{floats-length}
 use Rattle.wordbytes.proofs.Laws.{decoded-floats, decode-from}
 use Rattle.gridrows.specs.Steps.{gridOf, Ready, Done}
 use Rattle.gridrows.proofs.Laws.{few-weights}
-use Rattle.bytegrid.specs.ByteGrid.{asBytes}
+use Rattle.byterows.specs.AsBytes.{asBytes}
 use Rattle.bytegrid.proofs.Laws.{weights-ranged}
 use mathlib.Core.Path.{sym, _∙_, ap, subst}
 use mathlib.Core.List.{List}

@@ -12,13 +12,13 @@ use Rattle.row.specs.Steps.{Inside, RecordsPut}
 use Rattle.row.specs.declared.inner.OnAxes.{OnAxes}
 use Rattle.wordbytes.specs.Bytes.{wordsOf, floatsOf}
 use Rattle.wordbytes.proofs.BytesLaws.{words-length}
-use Rattle.bytegrid.specs.ByteGrid.{asBytes}
+use Rattle.byterows.specs.AsBytes.{asBytes}
 use Rattle.row.proofs.Laws.{mobility-flag-le, next-listed, listed-none, read-inside, read-is}
 use Rattle.row.specs.Row.{peakOf}
 use lib.ListN.{length, getD, drop, take, set}
 use lib.Ieee.{Float, nan, binary32, lt}
-use Rattle.bytegrid.proofs.records.put_peaks.Statement.{statement}
-use Rattle.bytegrid.proofs.records.put_peaks.Tie as tie
+use Rattle.byterows.proofs.records.put_peaks.Statement.{statement}
+use Rattle.byterows.proofs.records.put_peaks.Tie as tie
 
 abbrev Inv-loop : tie.InvT-loop
 Inv-loop found n y z place bounds mobility scans first out₀ j₀ out j = (j ≤ n) × (length out ≡ length out₀) × ((ks : List ℕ) → Standing y z found n ks → RecordsPut asBytes place bounds (floatsOf mobility) (wordsOf scans) y z first out₀ out j (oldest j ks))

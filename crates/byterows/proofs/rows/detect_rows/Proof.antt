@@ -10,10 +10,10 @@ use Rattle.wordbytes.specs.Bytes.{wordsOf, floatsOf}
 use Rattle.gridrows.specs.Grid.{Grid}
 use Rattle.gridrows.specs.Steps.{gridOf, numbered, Done}
 use Rattle.gridrows.proofs.Laws.{listed-bound, done-start, done-end, turn-most, turn-ids, turn-room, turn-ready, turn-done}
-use Rattle.bytegrid.specs.ByteGrid.{asBytes}
-use Rattle.bytegrid.proofs.Laws.{words-left}
-use Rattle.bytegrid.proofs.rows.detect_rows.Statement.{statement}
-use Rattle.bytegrid.proofs.rows.detect_rows.Tie as tie
+use Rattle.byterows.specs.AsBytes.{asBytes}
+use Rattle.byterows.proofs.Laws.{words-left}
+use Rattle.byterows.proofs.rows.detect_rows.Statement.{statement}
+use Rattle.byterows.proofs.rows.detect_rows.Tie as tie
 
 abbrev Inv-loop : tie.InvT-loop
 Inv-loop from to cols used scans scale bounds mobility p weights u first out₀ z₀ y₀ turns₀ bases₀ found₀ n₀ r₀ out z y turns bases found n r =

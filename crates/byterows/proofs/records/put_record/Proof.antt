@@ -1,11 +1,11 @@
 use lib.ListN.{length-take, length-drop}
-use Rattle.bytegrid.proofs.Laws.{record-words, record-put}
+use Rattle.byterows.proofs.Laws.{record-words, record-put}
 use mathlib.Core.Path.{_≡_, refl, ap}
 use native.Mathlib.Omega.{arith}
 use borrow.Author.Needs.{needs}
 use lib.ListN.{length}
-use Rattle.bytegrid.proofs.records.put_record.Statement.{statement}
-use Rattle.bytegrid.proofs.records.put_record.Tie as tie
+use Rattle.byterows.proofs.records.put_record.Statement.{statement}
+use Rattle.byterows.proofs.records.put_record.Tie as tie
 
 slice-aggregate-put-peak : tie.Need-slice-aggregate-put-peak
 slice-aggregate-put-peak c = search needs

@@ -9,11 +9,11 @@ use lib.Dec.{T, ltb, leb, eqb}
 use lib.ListN.{length, getD, drop, take, set}
 use lib.Ieee.{Float, nan, binary32, lt}
 use lib.Ieee.{ofBits}
-use Rattle.bytegrid.proofs.Laws.{mobility-there, mobility-none}
-use Rattle.bytegrid.proofs.records.mobility_at.Statement.{statement}
-use Rattle.bytegrid.proofs.records.mobility_at.Tie as tie
-use Rattle.bytegrid.proofs.records.mobility_at.Reads as reads
-use Rattle.bytegrid.proofs.records.mobility_at.Lts as lts
+use Rattle.byterows.proofs.Laws.{mobility-there, mobility-none}
+use Rattle.byterows.proofs.records.mobility_at.Statement.{statement}
+use Rattle.byterows.proofs.records.mobility_at.Tie as tie
+use Rattle.byterows.proofs.records.mobility_at.Reads as reads
+use Rattle.byterows.proofs.records.mobility_at.Lts as lts
 use Rattle.numeric.proofs.float_of.Reads as float-of-reads
 use Rattle.wordbytes.proofs.inner.word_at.Reads as word-at-reads
 

@@ -13,7 +13,7 @@ ghost use Rattle.smoothing.specs.Smoothing.{normalised};
 ghost use Rattle.row.specs.Steps as row;
 ghost use Rattle.gridrows.specs.Steps.{gridOf, Handed, RowPut, Lent, RowReady, RowDone, Ready, Done};
 ghost use Rattle.wordbytes.specs.Bytes.{wordsOf, floatsOf};
-ghost use Rattle.bytegrid.specs.ByteGrid.{asBytes};
+ghost use Rattle.byterows.specs.AsBytes.{asBytes};
 
 // Writes the records of the peaks of a row z, smoothed into y where weights are given, to the front of `out`, and answers how many
 // there are; u are the weights divided by their sum. The lists for turns, bases and what is found are scratch too.

@@ -8,11 +8,11 @@ use borrow.Author.Needs.{needs}
 use lib.Dec.{T, ltb, leb, eqb}
 use lib.ListN.{length, getD, drop, take, set}
 use lib.Ieee.{Float, nan, binary32, lt}
-use Rattle.bytegrid.proofs.Laws.{flag-clear, flag-set}
-use Rattle.bytegrid.proofs.records.mobility_flag.Statement.{statement}
-use Rattle.bytegrid.proofs.records.mobility_flag.Tie as tie
-use Rattle.bytegrid.proofs.records.mobility_flag.Reads as reads
-use Rattle.bytegrid.proofs.records.mobility_flag.Lts as lts
+use Rattle.byterows.proofs.Laws.{flag-clear, flag-set}
+use Rattle.byterows.proofs.records.mobility_flag.Statement.{statement}
+use Rattle.byterows.proofs.records.mobility_flag.Tie as tie
+use Rattle.byterows.proofs.records.mobility_flag.Reads as reads
+use Rattle.byterows.proofs.records.mobility_flag.Lts as lts
 
 returns : tie.Need-returns
 returns c = flag-clear (c .before .args .mobility .now) (c .if1 .taken)

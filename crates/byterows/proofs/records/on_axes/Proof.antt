@@ -8,13 +8,13 @@ use borrow.Author.Needs.{needs}
 use lib.Dec.{T, ltb, leb, eqb}
 use lib.ListN.{length, getD, drop, take, set}
 use lib.Ieee.{Float, nan, binary32, lt}
-use Rattle.bytegrid.proofs.records.on_axes.Statement.{statement}
-use Rattle.bytegrid.proofs.records.on_axes.Tie as tie
-use Rattle.bytegrid.proofs.records.on_axes.Reads as reads
-use Rattle.bytegrid.proofs.records.on_axes.Lts as lts
-use Rattle.bytegrid.proofs.records.mobility_at.Reads as mobility-at-reads
-use Rattle.bytegrid.proofs.records.mobility_flag.Reads as mobility-flag-reads
-use Rattle.bytegrid.proofs.records.scan_at.Reads as scan-at-reads
+use Rattle.byterows.proofs.records.on_axes.Statement.{statement}
+use Rattle.byterows.proofs.records.on_axes.Tie as tie
+use Rattle.byterows.proofs.records.on_axes.Reads as reads
+use Rattle.byterows.proofs.records.on_axes.Lts as lts
+use Rattle.byterows.proofs.records.mobility_at.Reads as mobility-at-reads
+use Rattle.byterows.proofs.records.mobility_flag.Reads as mobility-flag-reads
+use Rattle.byterows.proofs.records.scan_at.Reads as scan-at-reads
 
 scan-at-requires : tie.Need-scan-at-requires
 scan-at-requires c κs = search needs

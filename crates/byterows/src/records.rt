@@ -15,7 +15,7 @@ ghost use Rattle.row.specs.Row.{scanAt, mobilityAt, mobilityFlag, onAxes};
 ghost use Rattle.row.specs.Written.{stride, withRecord};
 ghost use Rattle.row.specs.Steps as row;
 ghost use Rattle.wordbytes.specs.Bytes.{wordsOf, floatsOf};
-ghost use Rattle.bytegrid.specs.ByteGrid.{asBytes};
+ghost use Rattle.byterows.specs.AsBytes.{asBytes};
 
 // Writes the record of a peak to place k.
 fn put_record(out: &mut [u8], k: usize, p: ImPeak1D)

@@ -8,11 +8,11 @@ use borrow.Author.Needs.{needs}
 use lib.Dec.{T, ltb, leb, eqb}
 use lib.ListN.{length, getD, drop, take, set}
 use lib.Ieee.{Float, nan, binary32, lt}
-use Rattle.bytegrid.proofs.Laws.{scan-before, scan-last}
-use Rattle.bytegrid.proofs.records.scan_at.Statement.{statement}
-use Rattle.bytegrid.proofs.records.scan_at.Tie as tie
-use Rattle.bytegrid.proofs.records.scan_at.Reads as reads
-use Rattle.bytegrid.proofs.records.scan_at.Lts as lts
+use Rattle.byterows.proofs.Laws.{scan-before, scan-last}
+use Rattle.byterows.proofs.records.scan_at.Statement.{statement}
+use Rattle.byterows.proofs.records.scan_at.Tie as tie
+use Rattle.byterows.proofs.records.scan_at.Reads as reads
+use Rattle.byterows.proofs.records.scan_at.Lts as lts
 use Rattle.wordbytes.proofs.inner.word_at.Reads as word-at-reads
 
 sub-last : tie.Need-sub-last

@@ -15,10 +15,10 @@ use Rattle.smoothrow.specs.SmoothRow.{Says}
 use Rattle.smoothrow.specs.declared.inner.Sought.the-variants.{Nothing, Raw, Smoothed}
 use Rattle.smoothrow.proofs.Laws.{searched-length}
 use Rattle.wordbytes.specs.Bytes.{wordsOf, floatsOf}
-use Rattle.bytegrid.specs.ByteGrid.{asBytes}
+use Rattle.byterows.specs.AsBytes.{asBytes}
 use Rattle.gridrows.proofs.Laws.{ready-for, listed-by, listed-none}
-use Rattle.bytegrid.proofs.rows.list_row.Statement.{statement}
-use Rattle.bytegrid.proofs.rows.list_row.Tie as tie
+use Rattle.byterows.proofs.rows.list_row.Statement.{statement}
+use Rattle.byterows.proofs.rows.list_row.Tie as tie
 
 -- where the search begins
 abbrev start : tie.After-search-row → tie.Start

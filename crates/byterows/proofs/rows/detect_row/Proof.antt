@@ -13,12 +13,12 @@ use Rattle.wordbytes.proofs.BytesLaws.{floats-length}
 use Rattle.gridrows.specs.Grid.{Grid, rowOf}
 use Rattle.gridrows.specs.Steps.{gridOf}
 use Rattle.gridrows.proofs.Laws.{row-handed, row-done}
-use Rattle.bytegrid.specs.ByteGrid.{asBytes}
-use Rattle.bytegrid.proofs.rows.detect_row.Statement.{statement}
-use Rattle.bytegrid.proofs.rows.detect_row.Tie as tie
-use Rattle.bytegrid.proofs.rows.detect_row.Reads as reads
-use Rattle.bytegrid.proofs.rows.detect_row.Lts as lts
-use Rattle.bytegrid.proofs.rows.list_row.Reads as list-row-reads
+use Rattle.byterows.specs.AsBytes.{asBytes}
+use Rattle.byterows.proofs.rows.detect_row.Statement.{statement}
+use Rattle.byterows.proofs.rows.detect_row.Tie as tie
+use Rattle.byterows.proofs.rows.detect_row.Reads as reads
+use Rattle.byterows.proofs.rows.detect_row.Lts as lts
+use Rattle.byterows.proofs.rows.list_row.Reads as list-row-reads
 use Rattle.tof.proofs.inner.row_place.Reads as row-place-reads
 use Rattle.wordbytes.proofs.inner.decode_floats.Reads as decode-floats-reads
 

@@ -1,0 +1,2 @@
+-- The definitions that the contracts of `byterows` cite.
+pub mod AsBytes
