@@ -8,8 +8,7 @@ ghost use Prim.Native.Nat.{_≤_, _<_, _+_, _*_, _/_};
 ghost use lib.ListN.{length};
 ghost use Rattle.gridrows.specs.Steps.{Done};
 ghost use Rattle.byterows.specs.AsBytes.{asBytes};
-ghost use Rattle.bytegrid.specs.ByteGrid.{byteGrid};
-ghost use Rattle.bytegrid.specs.ByteGrid.{Fit};
+ghost use Rattle.bytegrid.specs.ByteGrid.{byteGrid, Fit};
 
 // Rows that are worked through in one part.
 const MANY_ROWS: usize = 65536;

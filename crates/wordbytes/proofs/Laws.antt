@@ -17,8 +17,8 @@ use Rattle.numeric.specs.Numeric.{inRange, allInRange}
 use Rattle.numeric.proofs.Laws.{no-nan, is-nan, and-true, and-assoc}
 use Rattle.refusal.proofs.Bools.{both, and-false}
 use Rattle.params.specs.Params.{allUpTo, rising, risingFrom}
-use Rattle.wordbytes.specs.Bytes.{wordsOf, floatsOf, bytesOfWord, bytesOf, withWord}
-use Rattle.wordbytes.proofs.BytesLaws.{words-length, floats-length, bytes-append, bytes-length}
+use Rattle.wordbytes.specs.Bytes.{floatsOf, bytesOfWord, bytesOf, withWord}
+use Rattle.wordbytes.proofs.BytesLaws.{floats-length, bytes-append, bytes-length}
 
 -- ---- a buffer that is filled from the front
 pub fill-turn : {A : Type 0} (l d out : List A) (i : ℕ) (z v : A) → i < length l → i < length d → out ≡ take i l ++ drop i d → v ≡ getD l i z
@@ -109,11 +109,6 @@ pub decoded-floats : (b : List ℕ) (zeros last : List Float) → length b / 4 �
     → last ≡ take (length (take (length b / 4) zeros)) (drop 0 (floatsOf b)) → last ≡ floatsOf b
 decoded-floats b zeros last h e =
     e ∙ rw (length-take-le (length b / 4) zeros h) (take-all (length b / 4) (floatsOf b) (let l : length (floatsOf b) ≡ length b / 4 = floats-length b in omega arith))
-
-pub decoded-words : (b zeros last : List ℕ) → length b / 4 ≤ length zeros
-    → last ≡ take (length (take (length b / 4) zeros)) (wordsOf b) → last ≡ wordsOf b
-decoded-words b zeros last h e =
-    e ∙ rw (length-take-le (length b / 4) zeros h) (take-all (length b / 4) (wordsOf b) (let l : length (wordsOf b) ≡ length b / 4 = words-length b (length b / 4) in omega arith))
 
 -- ---- an axis that rises: its last word is the highest
 rising-last : (limit s : ℕ) (ss : List ℕ) → risingFrom s ss ≡ true

@@ -46,16 +46,6 @@ pub fn put_words(out: &mut [u8], ws: &[u32])
     }
 }
 
-// Fills `out` with the first words.
-pub fn decode_words(b: &[u8], out: &mut [u32])
-    requires { ⌜ length (now out) * 4 ≤ length (now b) ⌝ }
-    ensures { λ _. ⌜ now (out .exit) ≡ take (length (now (out .entry))) (wordsOf (now (b .entry))) ⌝ }
-{
-    for i in 0..out.len() {
-        out[i] = word_at(b, i);
-    }
-}
-
 // Fills `out` with the floats from the word `from` on, where all are known to be in range: so each word is taken as it is.
 pub fn decode_floats(b: &[u8], from: usize, out: &mut [f32])
     requires { ⌜ ((from + length (now out)) * 4 ≤ length (now b)) × (allInRange maxReading (floatsOf (now b)) ≡ true) ⌝ }
