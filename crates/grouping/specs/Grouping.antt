@@ -1,66 +1,77 @@
--- Sorted peaks cut into groups, and what is written of the groups. Peaks stand in a list of records, and a group is the list
--- of its members' places, in their order.
-use mathlib.Core.Bool.{Bool, true, cond, not, _&&_, _||_}
-use mathlib.Core.List.{List, [], _∷_, _++_, map, reverse, foldl, List·Memᴰ}
-use Prim.Native.Nat.{ℕ, _+_, _<_}
-use lib.ListN.{length, set}
-use Rattle.record.specs.Record.{peakAt, wordsOf}
+-- One pass of stitching over a list of peaks: the peaks are sorted, cut into groups in their order, and each group is merged into one
+-- peak. A group is the list of its members' places, in their order.
+use mathlib.Core.Bool.{Bool, true, cond, _&&_, _||_}
+use mathlib.Core.List.{List, [], _∷_, _++_, map, reverse}
+use Prim.Native.Nat.{ℕ, suc}
+use lib.Dec.{eqb}
+use lib.ListN.{length}
 use Rattle.record.specs.declared.ImPeak1D.{ImPeak1D}
+use Rattle.peaklist.specs.PeakList.{nth}
+use Rattle.digits.specs.Sorted.{sortedBy, upTo}
+use Rattle.matching.specs.declared.StitchParams.{StitchParams}
 use Rattle.matching.specs.Group.{mayJoin}
-use Rattle.matching.specs.Keys.{firstKey, secondKey, sameBucket}
-use Rattle.matching.specs.declared.inner.Key.{Key}
+use Rattle.keys.specs.declared.KeyRule.{KeyRule}
+use Rattle.keys.specs.declared.KeyRule.the-variants.{First, Second, Identity}
+use Rattle.keys.specs.Keys.{bucketOf, isSameBucket, keyOf}
 use Rattle.merging.specs.Merging.{merged}
-use Rattle.ordering.specs.declared.inner.KeyRule.{KeyRule}
 
 -- the peaks at places of a list
-abbrev pub peaksAt : List ℕ → List ℕ → List ImPeak1D
-peaksAt list ps = map (peakAt list) ps
+abbrev pub peaksAt : List ImPeak1D → List ℕ → List ImPeak1D
+peaksAt ps g = map (nth ps) g
 
 -- ---- groups
 
--- the key of a peak, that of the pass
-unfoldable pub keyOf : KeyRule → ImPeak1D → Key
-keyOf rule p = cond (rule .first) (firstKey (rule .params) p) (secondKey p)
+-- whether two peaks may stand in one group as far as buckets go, which only the first pass has
+unfoldable pub inOneBucket : KeyRule → ImPeak1D → ImPeak1D → Bool
+inOneBucket (First params) a b = isSameBucket (bucketOf params a) (bucketOf params b)
+inOneBucket Second a b = true
+inOneBucket Identity a b = true
 
 -- Whether a peak may join an open group, whose peaks stand newest first: as the tests say, and in the first pass only within
 -- a bucket. A group without members takes in any peak.
-unfoldable pub follows : KeyRule → List ImPeak1D → ImPeak1D → Bool
-follows rule [] p = true
-follows rule (last ∷ ps) p = (not (rule .first) || sameBucket (keyOf rule last) (keyOf rule p)) && mayJoin (rule .params) (last ∷ ps) p
+unfoldable pub follows : KeyRule → StitchParams → List ImPeak1D → ImPeak1D → Bool
+follows rule params [] p = true
+follows rule params (last ∷ qs) p = inOneBucket rule last p && mayJoin params (last ∷ qs) p
 
 -- the groups of an open one, whose places stand newest first, and of the places that are left
-unfoldable pub groupsFrom : List ℕ → KeyRule → List ℕ → List ℕ → List (List ℕ)
-groupsFrom list rule g [] = reverse g ∷ []
-groupsFrom list rule g (q ∷ qs) =
-    cond (follows rule (peaksAt list g) (peakAt list q))
-    (groupsFrom list rule (q ∷ g) qs)
-    (reverse g ∷ groupsFrom list rule (q ∷ []) qs)
+unfoldable pub groupsFrom : KeyRule → StitchParams → List ImPeak1D → List ℕ → List ℕ → List (List ℕ)
+groupsFrom rule params ps g [] = reverse g ∷ []
+groupsFrom rule params ps g (q ∷ qs) =
+    cond (follows rule params (peaksAt ps g) (nth ps q))
+    (groupsFrom rule params ps (q ∷ g) qs)
+    (reverse g ∷ groupsFrom rule params ps (q ∷ []) qs)
 
 -- the groups of places, from the first on
-unfoldable pub groups : List ℕ → KeyRule → List ℕ → List (List ℕ)
-groups list rule [] = []
-groups list rule (p ∷ ps) = groupsFrom list rule (p ∷ []) ps
+unfoldable pub groups : KeyRule → StitchParams → List ImPeak1D → List ℕ → List (List ℕ)
+groups rule params ps [] = []
+groups rule params ps (q ∷ qs) = groupsFrom rule params ps (q ∷ []) qs
 
--- ---- what is written of them
+-- the peaks into which groups are merged
+unfoldable pub groupPeaks : List ImPeak1D → List (List ℕ) → List ImPeak1D
+groupPeaks ps gs = map (λ g. merged (peaksAt ps g)) gs
 
--- the words of a merged group
-unfoldable pub mergedWords : List ℕ → List ℕ → List ℕ
-mergedWords list g = wordsOf (merged (peaksAt list g))
+-- ---- a pass
 
--- the records of merged groups, one after the other
-unfoldable pub groupWords : List ℕ → List (List ℕ) → List ℕ
-groupWords list [] = []
-groupWords list (g ∷ gs) = mergedWords list g ++ groupWords list gs
+-- the places of the peaks, in the order of their keys
+abbrev pub passOrder : KeyRule → List ImPeak1D → List ℕ
+passOrder rule ps = sortedBy (λ k. keyOf rule (nth ps k)) (upTo (length ps))
 
--- a column with a number at each of some places
-unfoldable pub numbered : ℕ → List ℕ → List ℕ → List ℕ
-numbered k ps column = foldl (λ so p. set so p k) column ps
+-- the groups of all peaks, which are taken in that order
+unfoldable pub passGroups : KeyRule → StitchParams → List ImPeak1D → List (List ℕ)
+passGroups rule params ps = groups rule params ps (passOrder rule ps)
 
--- a column with its group's number at each member's place, where the groups are counted from k
-unfoldable pub marked : ℕ → List (List ℕ) → List ℕ → List ℕ
-marked k [] column = column
-marked k (g ∷ gs) column = marked (k + 1) gs (numbered k g column)
+-- and what they are merged into
+abbrev pub passPeaks : KeyRule → StitchParams → List ImPeak1D → List ImPeak1D
+passPeaks rule params ps = groupPeaks ps (passGroups rule params ps)
 
--- every place is one of a column
-abbrev pub Columned : List ℕ → List ℕ → Type 0
-Columned column order = (p : ℕ) → List·Memᴰ p order → p < length column
+-- ---- which group has a place
+
+-- whether a group has a place
+unfoldable pub has : List ℕ → ℕ → Bool
+has [] p = false
+has (q ∷ g) p = eqb p q || has g p
+
+-- the number of the group that has a place, counted from 0
+unfoldable pub numberIn : List (List ℕ) → ℕ → ℕ
+numberIn [] p = 0
+numberIn (g ∷ gs) p = cond (has g p) 0 (suc (numberIn gs p))

@@ -2,16 +2,16 @@
 use mathlib.Core.Path.{_≡_, refl}
 use mathlib.Core.Bool.{true, false}
 use mathlib.Core.List.{[], _∷_}
-use Prim.Native.Nat.{ℕ, _+_}
+use Prim.Native.Nat.{ℕ, _+_, _*_}
 use lib.Ieee.{binary32, add, sub, div, ofInt, ofBits, toBits, lt, le, isNan}
 use Rattle.numeric.specs.Arith.{𝟎, indexF}
 use Rattle.numeric.specs.Numeric.{maxF}
 use Rattle.record.specs.declared.ImPeak1D.{ImPeak1D}
 use Rattle.matching.specs.declared.StitchParams.{StitchParams}
-use Rattle.matching.specs.Matching.{samples, overlap, jaccardF, enoughCommon, atMost, groupOrNone}
+use Rattle.matching.specs.Matching.{samples, overlap, jaccardF, enoughCommon, atMost, groupOf}
 use Rattle.matching.specs.Matching.{sameGroup, rowsNear, framesOverlap, scansOverlap, inside, apexesInside, compatible}
-use Rattle.matching.specs.Group.{lowest, highest, rowSpan, scanSpan, withinLimits, mayJoin}
-use Rattle.matching.specs.Keys.{firstKey, secondKey, lexLt, numbers, keyLt}
+use Rattle.peaklist.specs.Extremes.{extreme}
+use Rattle.matching.specs.Group.{rowSpan, scanSpan, withinLimits, mayJoin}
 
 -- ---- intervals
 
@@ -43,7 +43,7 @@ next-below = refl
 
 -- ---- two peaks
 
--- a peak with the fields that stitching looks at: its absolute scans are 50 above those of the row
+-- a peak with the fields that stitching looks at: its absolute scans go by twos, from 50 on
 abbrev pub peak : (row first last flags group scan left right id : ℕ) → ImPeak1D
 peak row first last flags group scan left right id =
     record {
@@ -60,9 +60,9 @@ peak row first last flags group scan left right id =
       scan = scan;
       left = left;
       right = right;
-      «scan_abs» = scan + 50;
-      «left_abs» = left + 50;
-      «right_abs» = right + 50;
+      «scan_abs» = scan * 2 + 50;
+      «left_abs» = left * 2 + 50;
+      «right_abs» = right * 2 + 50;
       «scan_sigma» = 𝟎;
       mobility = 𝟎;
       «apex_smoothed» = 𝟎;
@@ -76,19 +76,23 @@ peak row first last flags group scan left right id =
       id = id;
     }
 
--- 3 frames and a quarter of all in common, 1 scan, both apexes within, no crossing of groups; with limits for rows and scans
-abbrev pub asked : (rowLimit scanLimit : ℕ) → StitchParams
-asked rowLimit scanLimit =
+-- 3 frames in common, and a share of all, some scans, both apexes within, no crossing of groups; with limits for rows and scans
+abbrev pub asks : (share scans rowLimit scanLimit : ℕ) → StitchParams
+asks share scans rowLimit scanLimit =
     record {
       «min_overlap_frames» = 3;
       «max_scan_delta» = scanLimit;
-      «jaccard_min» = ofBits binary32 0x3e80_0000;
+      «jaccard_min» = ofBits binary32 share;
       «max_tof_row_delta» = rowLimit;
       «allow_cross_groups» = false;
-      «min_im_overlap_scans» = 1;
+      «min_im_overlap_scans» = scans;
       «im_jaccard_min» = 𝟎;
       «require_mutual_apex_inside» = true;
     }
+
+-- a quarter of all frames, and 1 scan
+abbrev pub asked : (rowLimit scanLimit : ℕ) → StitchParams
+asked rowLimit scanLimit = asks 0x3e80_0000 1 rowLimit scanLimit
 
 -- two peaks of group 7 with apexes at 20 and 22, in 15 to 25 and 17 to 29, and one in the row below the first
 abbrev pub a : ImPeak1D
@@ -101,7 +105,7 @@ abbrev pub below : ImPeak1D
 below = peak 99 0 9 1 7 20 15 25 3
 
 -- In this order: the two fit together; not with a row limit of 1; a limit of 0 does not look at rows; not if an apex lies
--- outside the scans in common, 17 to 25; groups are the same if both are missing, whatever their words; not if one is; a
+-- outside the absolute scans in common, 84 to 100; groups are the same if both are missing, whatever their words; not if one is; a
 -- member in row 99 keeps row 102 out of a group whose newest member is compatible; limits of 0 do not.
 pub peaks-together :
     compatible (asked 2 10) a b
@@ -114,21 +118,19 @@ pub peaks-together :
     ∷ mayJoin (asked 0 0) (a ∷ below ∷ []) b
     ∷ []
     ≡ true ∷ false ∷ true ∷ false ∷ true ∷ false ∷ false ∷ true ∷ []
-unfolding mayJoin withinLimits rowSpan scanSpan lowest highest compatible sameGroup groupOrNone rowsNear atMost framesOverlap scansOverlap enoughCommon overlap jaccardF samples apexesInside inside maxF isNan lt le add sub div ofInt ofBits
+unfolding mayJoin withinLimits rowSpan scanSpan extreme compatible sameGroup groupOf rowsNear atMost framesOverlap scansOverlap enoughCommon overlap jaccardF samples apexesInside inside maxF isNan lt le add sub div ofInt ofBits
 peaks-together = refl
 
--- ---- orders
-
--- scans by tens and rows by threes; with limits of 0 each scan and each row by itself
-pub buckets : numbers (firstKey (asked 2 10) a) ≡ 8 ∷ 2 ∷ 33 ∷ 20 ∷ 0 ∷ 100 ∷ 1 ∷ []
-unfolding numbers firstKey groupOrNone
-buckets = refl
-
-pub singles : numbers (firstKey (asked 0 0) a) ≡ 8 ∷ 20 ∷ 100 ∷ 20 ∷ 0 ∷ 100 ∷ 1 ∷ []
-unfolding numbers firstKey groupOrNone
-singles = refl
-
--- a missing group comes before group 0
-pub none-first : keyLt (secondKey (peak 102 5 14 0 7 22 17 29 2)) (secondKey (peak 100 0 9 1 0 20 15 25 1)) ≡ true
-unfolding keyLt numbers lexLt secondKey groupOrNone
-none-first = refl
+-- A third of all frames is exactly met, and the next float above it is not; the 9 scans in common are counted in the row, where
+-- there are 17 absolute ones; the absolute apexes lie 4 apart, those in the row 2.
+pub just-met :
+    compatible (asks 0x3eaa_aaab 1 2 10) a b
+    ∷ compatible (asks 0x3eaa_aaac 1 2 10) a b
+    ∷ compatible (asks 0x3e80_0000 9 2 10) a b
+    ∷ compatible (asks 0x3e80_0000 10 2 10) a b
+    ∷ mayJoin (asked 2 4) (a ∷ []) b
+    ∷ mayJoin (asked 2 3) (a ∷ []) b
+    ∷ []
+    ≡ true ∷ false ∷ true ∷ false ∷ true ∷ false ∷ []
+unfolding mayJoin withinLimits rowSpan scanSpan extreme compatible sameGroup groupOf rowsNear atMost framesOverlap scansOverlap enoughCommon overlap jaccardF samples apexesInside inside maxF isNan lt le add sub div ofInt ofBits
+just-met = refl

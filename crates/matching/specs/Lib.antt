@@ -1,6 +1,4 @@
--- The definitions that the contracts of `matching` cite, what is proved of them, and worked cases.
+-- The definitions that the contracts of `matching` cite, and worked cases.
 pub mod Matching
 pub mod Group
-pub mod Keys
-pub mod KeyLaws
 pub mod Cases

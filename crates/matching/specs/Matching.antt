@@ -9,6 +9,7 @@ use Rattle.numeric.specs.Numeric.{inRange, maxF}
 use Rattle.record.specs.Record.{hasGroup}
 use Rattle.record.specs.declared.ImPeak1D.{ImPeak1D}
 use Rattle.matching.specs.declared.StitchParams.{StitchParams}
+use Rattle.matching.specs.declared.inner.Group.{Group}
 
 -- ---- number 4: counts to 65,535, shares from 0 to 1
 
@@ -55,14 +56,17 @@ enoughCommon least leastShare loA hiA loB hiB =
 unfoldable pub atMost : ℕ → ℕ → Bool
 atMost limit n = eqb limit 0 || leb n limit
 
--- The window group as a number: 0 for a missing one, whose word is not looked at, and one more than its own for one that is
--- there. So two are equal if both are missing, or both are there and equal, and a missing one comes before every other.
-unfoldable pub groupOrNone : ImPeak1D → ℕ
-groupOrNone p = cond (hasGroup p) (p .«window_group» + 1) 0
+-- The window group: whether it is there, and its number. That of a missing one is 0, whatever its word is, so that two are the same if
+-- both are missing, or both are there and equal.
+unfoldable pub groupOf : ImPeak1D → Group
+groupOf p = record { there = cond (hasGroup p) 1 0; number = cond (hasGroup p) (p .«window_group») 0 }
+
+abbrev pub isSame : Group → Group → Bool
+isSame x y = eqb (x .there) (y .there) && eqb (x .number) (y .number)
 
 -- one window group, unless crossing is allowed
 unfoldable pub sameGroup : StitchParams → ImPeak1D → ImPeak1D → Bool
-sameGroup p a b = p .«allow_cross_groups» || eqb (groupOrNone a) (groupOrNone b)
+sameGroup p a b = p .«allow_cross_groups» || isSame (groupOf a) (groupOf b)
 
 -- rows no further apart than the row limit; a limit of 0 does not look at rows
 unfoldable pub rowsNear : StitchParams → ImPeak1D → ImPeak1D → Bool

@@ -1,17 +1,13 @@
-// The tests and the sort keys of stitching. Each takes any values.
+// The tests of stitching. Each takes any values.
 use super::StitchParams;
 use record::ImPeak1D;
-use record::PeakId;
 ghost use mathlib.Core.Path.{_≡_};
-ghost use mathlib.Core.Bool.{cond};
 ghost use mathlib.Core.List.{List, [], _∷_};
-ghost use Prim.Native.Nat.{_-_, _/_, _+_, min, max};
-ghost use lib.Dec.{ltb, eqb};
+ghost use Prim.Native.Nat.{_-_};
 ghost use Rattle.record.specs.declared.ImPeak1D.{ImPeak1D as PeakT};
-ghost use Rattle.matching.specs.Matching.{soundStitch, samples, overlap, jaccardF, enoughCommon, atMost, groupOrNone};
+ghost use Rattle.matching.specs.Matching.{soundStitch, samples, overlap, jaccardF, enoughCommon, atMost, groupOf, isSame};
 ghost use Rattle.matching.specs.Matching.{sameGroup, rowsNear, framesOverlap, scansOverlap, inside, apexesInside, compatible};
 ghost use Rattle.matching.specs.Group.{Covers, withinLimits, mayJoin};
-ghost use Rattle.matching.specs.Keys.{firstKey, secondKey, sameBucket, keyLt};
 
 // How far hi lies above lo, 0 if it does not.
 fn above(hi: u32, lo: u32) -> u32
@@ -82,23 +78,38 @@ fn enough_common(least: u32, share: f32, lo_a: u32, hi_a: u32, lo_b: u32, hi_b: 
     (least <= overlap(lo_a, hi_a, lo_b, hi_b)) & !too_small
 }
 
-// The window group as a number: 0 for a missing one, which so stands before every group, and else one more than its own.
-fn group_or_none(p: ImPeak1D) -> u64
-    ensures { λ r. ⌜ r ≡ groupOrNone p ⌝ }
+// A window group: whether it is there, 1 or 0, and its number, 0 for a missing one.
+pub struct Group {
+    pub there: u32,
+    pub number: u32,
+}
+
+pub fn group_of(p: ImPeak1D) -> Group
+    ensures { λ r. ⌜ r ≡ groupOf p ⌝ }
 {
     if p.flags % 2 == ImPeak1D::HAS_GROUP {
-        (p.window_group as u64) + 1
+        Group {
+            there: 1,
+            number: p.window_group,
+        }
     } else {
-        0
+        Group {
+            there: 0,
+            number: 0,
+        }
     }
+}
+
+fn is_same(x: Group, y: Group) -> bool
+    ensures { λ r. ⌜ r ≡ isSame x y ⌝ }
+{
+    (x.there == y.there) & (x.number == y.number)
 }
 
 fn same_group(p: StitchParams, a: ImPeak1D, b: ImPeak1D) -> bool
     ensures { λ r. ⌜ r ≡ sameGroup p a b ⌝ }
 {
-    let x = group_or_none(a);
-    let y = group_or_none(b);
-    p.allow_cross_groups | (x == y)
+    p.allow_cross_groups | is_same(group_of(a), group_of(b))
 }
 
 fn rows_near(p: StitchParams, a: ImPeak1D, b: ImPeak1D) -> bool
@@ -211,86 +222,4 @@ pub fn joins(last: ImPeak1D, s: Spans, p: ImPeak1D, params: StitchParams) -> boo
     ensures { λ r. ⌜ ((ps : List PeakT) → Covers s (last ∷ ps) → r ≡ mayJoin params (last ∷ ps) p) ⌝ }
 {
     compatible_fast(last, p, params) & spans_ok(widened(s, p), params)
-}
-
-// What peaks are sorted by: numbers of which the first that differs decides, the identity last.
-pub struct Key {
-    pub group: u64,
-    pub a: u32,
-    pub b: u32,
-    pub c: u32,
-    pub d: u32,
-    pub e: u32,
-    pub id: PeakId,
-}
-
-// Which bucket a row falls into, where each takes one row more than the limit.
-fn tof_bucket(tof_row: u32, delta: u32) -> u32
-    ensures { λ r. ⌜ r ≡ «tof_row» / (delta + 1) ⌝ }
-{
-    ((tof_row as u64) / ((delta as u64) + 1)) as u32
-}
-
-// The group that a bucket is of, which is none for all where crossing is allowed.
-fn norm_wg(p: ImPeak1D, allow_cross: bool) -> u64
-    ensures { λ r. ⌜ r ≡ cond «allow_cross» 0 (groupOrNone p) ⌝ }
-{
-    if allow_cross { 0 } else { group_or_none(p) }
-}
-
-// The key of the first pass. Its group, a and b are the peak's bucket.
-pub fn first_key(p: ImPeak1D, params: StitchParams) -> Key
-    ensures { λ r. ⌜ r ≡ firstKey params p ⌝ }
-{
-    Key {
-        group: norm_wg(p, params.allow_cross_groups),
-        a: p.scan / numeric::inner::higher(params.max_scan_delta, 1),
-        b: tof_bucket(p.tof_row, params.max_tof_row_delta),
-        c: p.scan,
-        d: p.rt_lo,
-        e: p.tof_row,
-        id: p.id,
-    }
-}
-
-// The key of the second pass.
-pub fn second_key(p: ImPeak1D) -> Key
-    ensures { λ r. ⌜ r ≡ secondKey p ⌝ }
-{
-    Key {
-        group: group_or_none(p),
-        a: p.tof_row,
-        b: p.scan,
-        c: p.rt_lo,
-        d: 0,
-        e: 0,
-        id: p.id,
-    }
-}
-
-// Whether two keys of the first pass are of one bucket.
-pub fn same_bucket(x: Key, y: Key) -> bool
-    ensures { λ r. ⌜ r ≡ sameBucket x y ⌝ }
-{
-    (x.group == y.group) & (x.a == y.a) & (x.b == y.b)
-}
-
-// The lower of two numbers comes first, and of equal ones what follows decides.
-fn by(x: u64, y: u64, rest: bool) -> bool
-    ensures { λ r. ⌜ r ≡ cond (eqb x y) rest (ltb x y) ⌝ }
-{
-    if x == y { rest } else { x < y }
-}
-
-// Whether x comes before y.
-pub fn key_lt(x: Key, y: Key) -> bool
-    ensures { λ r. ⌜ r ≡ keyLt x y ⌝ }
-{
-    let from_id = record::inner::id_lt(x.id, y.id);
-    let from_e = by(x.e as u64, y.e as u64, from_id);
-    let from_d = by(x.d as u64, y.d as u64, from_e);
-    let from_c = by(x.c as u64, y.c as u64, from_d);
-    let from_b = by(x.b as u64, y.b as u64, from_c);
-    let from_a = by(x.a as u64, y.a as u64, from_b);
-    by(x.group, y.group, from_a)
 }

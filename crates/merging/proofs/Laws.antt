@@ -9,15 +9,10 @@ use Rattle.numeric.specs.Numeric.{maxF}
 use Rattle.refusal.proofs.Bools.{clash}
 use Rattle.numeric.proofs.Laws.{and-true, and-assoc}
 use Rattle.record.specs.declared.ImPeak1D.{ImPeak1D}
-use Rattle.merging.specs.Merging.{extreme, highestF, summed, having, isAny, haveAll, firstOf}
+use Rattle.peaklist.specs.Extremes.{isAny}
+use Rattle.merging.specs.Merging.{highestF, summed, having, haveAll, firstOf}
 
--- ---- extremes and sums
-pub extreme-join : (pick : ℕ → ℕ → ℕ) (f : ImPeak1D → ℕ) (ps : List ImPeak1D) (p : ImPeak1D) → isAny ps ≡ true
-    → extreme pick f (ps ++ (p ∷ [])) ≡ pick (extreme pick f ps) (f p)
-unfolding extreme isAny
-extreme-join pick f [] p h = clash false h refl
-extreme-join pick f (q ∷ ps) p h = foldl-append (λ so q. pick so (f q)) (f q) ps (p ∷ [])
-
+-- ---- heights and sums
 pub highest-join : (f : ImPeak1D → Float) (ps : List ImPeak1D) (p : ImPeak1D) → highestF f (ps ++ (p ∷ [])) ≡ maxF (highestF f ps) (f p)
 unfolding highestF
 highest-join f ps p = foldl-append _ _ ps (p ∷ [])

@@ -17,7 +17,8 @@ use Rattle.refusal.proofs.Bools.{clash}
 use Rattle.numeric.proofs.Order.{le-not-lt, not-lt, lt-le-trans}
 use Rattle.record.specs.Record.{hasSigma}
 use Rattle.record.specs.declared.ImPeak1D.{ImPeak1D}
-use Rattle.merging.specs.Merging.{summed, weight, totalWeight, having, isAny}
+use Rattle.peaklist.specs.Extremes.{isAny}
+use Rattle.merging.specs.Merging.{summed, weight, totalWeight, having}
 use Rattle.merging.specs.MergingWeights.{TotalAbove, MeanIs, SigmaThere}
 
 -- a clear sign, and with it a value of 1 at least

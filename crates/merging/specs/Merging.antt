@@ -9,20 +9,9 @@ use Rattle.numeric.specs.Numeric.{maxF, castF}
 use Rattle.rounding.specs.Rounding.{roundF}
 use Rattle.record.specs.Record.{hasGroup, hasMobility, hasSigma}
 use Rattle.record.specs.declared.ImPeak1D.{ImPeak1D}
+use Rattle.peaklist.specs.Extremes.{lowestOf, highestOf, isAny}
 
--- ---- extremes
-
--- Of the values that a whole-number field has in the peaks, the one that is left when two at a time yield to one; 0 of no peaks.
-unfoldable pub extreme : (ℕ → ℕ → ℕ) → (ImPeak1D → ℕ) → List ImPeak1D → ℕ
-extreme pick f [] = 0
-extreme pick f (p ∷ ps) = foldl (λ so q. pick so (f q)) (f p) ps
-
--- the lowest value and the highest one
-abbrev pub lowestOf : (ImPeak1D → ℕ) → List ImPeak1D → ℕ
-lowestOf f ps = extreme min f ps
-
-abbrev pub highestOf : (ImPeak1D → ℕ) → List ImPeak1D → ℕ
-highestOf f ps = extreme max f ps
+-- ---- heights
 
 -- the highest value of a float field, from the lowest finite float on
 unfoldable pub highestF : (ImPeak1D → Float) → List ImPeak1D → Float
@@ -64,11 +53,7 @@ unfoldable pub having : (ImPeak1D → Bool) → List ImPeak1D → List ImPeak1D
 having has [] = []
 having has (p ∷ ps) = cond (has p) (p ∷ having has ps) (having has ps)
 
--- whether there are any peaks, whether all of them have something, and the first one's value of a field
-unfoldable pub isAny : List ImPeak1D → Bool
-isAny [] = false
-isAny (p ∷ ps) = true
-
+-- whether all peaks have something, and the first one's value of a field
 unfoldable pub haveAll : (ImPeak1D → Bool) → List ImPeak1D → Bool
 haveAll has [] = true
 haveAll has (p ∷ ps) = has p && haveAll has ps

@@ -7,7 +7,8 @@ use Rattle.numeric.specs.Numeric.{maxF}
 use Rattle.rounding.specs.Rounding.{roundF}
 use Rattle.record.specs.Record.{word, wordsOf, peakFrom}
 use Rattle.record.specs.declared.ImPeak1D.{ImPeak1D}
-use Rattle.merging.specs.Merging.{extreme, highestF, summed, weight, having, isAny, haveAll, firstOf, merged}
+use Rattle.peaklist.specs.Extremes.{extreme, isAny}
+use Rattle.merging.specs.Merging.{highestF, summed, weight, having, haveAll, firstOf, merged}
 
 -- a peak of window group 3 with a scan sigma of 2, and with a row, an area and a subscan given as words
 strong : ℕ → ℕ → ℕ → ImPeak1D

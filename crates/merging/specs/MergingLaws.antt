@@ -1,35 +1,11 @@
 -- What is known of a merged peak: its bounds are the extremes of the members' bounds, its identity is the least of the members', and
 -- merging in two steps gives the extremes of all.
 use mathlib.Core.Path.{_≡_}
-use mathlib.Core.Bool.{true}
-use mathlib.Core.List.{List, map, flatten, List·Memᴰ}
-use Prim.Native.Nat.{ℕ, _≤_}
+use mathlib.Core.List.{List, map, flatten}
+use Prim.Native.Nat.{ℕ}
 use Rattle.record.specs.declared.ImPeak1D.{ImPeak1D}
-use Rattle.merging.specs.Merging.{lowestOf, highestOf, isAny, merged}
-
--- ---- extremes of a field of a group's members
-
--- a member of a group that has a value of a field
-pub record Has (f : ImPeak1D → ℕ) (n : ℕ) (ps : List ImPeak1D) : Type 0 where
-  pub peak : ImPeak1D
-  pub member : List·Memᴰ peak ps
-  pub value : n ≡ f peak
-
--- no member is below the lowest: `lowest-below` in proofs/MergingLaws.antt
-abbrev pub LowestBelow : Type 0
-LowestBelow = (f : ImPeak1D → ℕ) (p : ImPeak1D) (ps : List ImPeak1D) → List·Memᴰ p ps → lowestOf f ps ≤ f p
-
--- and some member has it: `lowest-one`
-abbrev pub LowestOne : Type 0
-LowestOne = (f : ImPeak1D → ℕ) (ps : List ImPeak1D) → isAny ps ≡ true → Has f (lowestOf f ps) ps
-
--- no member is above the highest: `highest-above`
-abbrev pub HighestAbove : Type 0
-HighestAbove = (f : ImPeak1D → ℕ) (p : ImPeak1D) (ps : List ImPeak1D) → List·Memᴰ p ps → f p ≤ highestOf f ps
-
--- and some member has it: `highest-one`
-abbrev pub HighestOne : Type 0
-HighestOne = (f : ImPeak1D → ℕ) (ps : List ImPeak1D) → isAny ps ≡ true → Has f (highestOf f ps) ps
+use Rattle.peaklist.specs.Extremes.{lowestOf, highestOf, AllAny}
+use Rattle.merging.specs.Merging.{merged}
 
 -- ---- the merged peak
 
@@ -68,10 +44,6 @@ abbrev pub MergedId : Type 0
 MergedId = (ps : List ImPeak1D) → merged ps .id ≡ lowestOf (λ p. p .id) ps
 
 -- ---- groups that are merged, and the merged peaks merged once more
-
--- groups that have a peak each
-abbrev pub AllAny : List (List ImPeak1D) → Type 0
-AllAny gs = (g : List ImPeak1D) → List·Memᴰ g gs → isAny g ≡ true
 
 -- the low bounds are the lowest of all the members': `twice-low` in proofs/MergingLaws.antt
 abbrev pub TwiceLow : Type 0

@@ -6,7 +6,8 @@ use lib.Ieee.{Float, lt}
 use Rattle.numeric.specs.Arith.{_⊘_, 𝟎}
 use Rattle.record.specs.Record.{hasSigma}
 use Rattle.record.specs.declared.ImPeak1D.{ImPeak1D}
-use Rattle.merging.specs.Merging.{totalWeight, weightedSum, mean, having, isAny, anySigma}
+use Rattle.peaklist.specs.Extremes.{isAny}
+use Rattle.merging.specs.Merging.{totalWeight, weightedSum, mean, having, anySigma}
 
 -- the weights of one peak or more come to more than 0: `total-above` in proofs/MergingWeights.antt
 abbrev pub TotalAbove : Type 0

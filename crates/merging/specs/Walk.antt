@@ -9,7 +9,8 @@ use Rattle.merging.specs.declared.inner.Sums.{Sums}
 use Rattle.merging.specs.declared.inner.Bounds.{Bounds}
 use Rattle.merging.specs.declared.inner.Heights.{Heights}
 use Rattle.merging.specs.declared.inner.Merging.{Merging}
-use Rattle.merging.specs.Merging.{lowestOf, highestOf, highestF, summed, totalWeight, weightedSum, having, isAny, groupWord, oneGroup, anyMobility, firstMobility}
+use Rattle.peaklist.specs.Extremes.{lowestOf, highestOf, isAny}
+use Rattle.merging.specs.Merging.{highestF, summed, totalWeight, weightedSum, having, groupWord, oneGroup, anyMobility, firstMobility}
 
 unfoldable pub sumsOf : List ImPeak1D → Sums
 sumsOf ps = record {

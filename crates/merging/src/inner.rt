@@ -7,7 +7,8 @@ ghost use mathlib.Core.List.{List, [], _∷_, _++_};
 ghost use Prim.Native.Nat.{_≤_, min, max};
 ghost use Rattle.numeric.specs.Arith.{_⊘_};
 ghost use Rattle.record.specs.declared.ImPeak1D.{ImPeak1D};
-ghost use Rattle.merging.specs.Merging.{weight, whole, widthOf, flagsOf, ofGroup, isAny, merged};
+ghost use Rattle.peaklist.specs.Extremes.{isAny};
+ghost use Rattle.merging.specs.Merging.{weight, whole, widthOf, flagsOf, ofGroup, merged};
 ghost use Rattle.merging.specs.Walk.{sumsOf, boundsOf, heightsOf, Holds};
 
 // Sums over the peaks so far: of their weights, of their areas, and of five further fields, each value times the peak's weight.

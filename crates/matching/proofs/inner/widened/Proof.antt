@@ -1,4 +1,5 @@
-use Rattle.matching.specs.Group.{lowest, highest}
+use Prim.Native.Nat.{min, max}
+use Rattle.peaklist.proofs.Extremes.{extreme-cons, lowest-choice, highest-choice}
 use borrow.Author.Needs.{needs}
 use Rattle.matching.proofs.inner.widened.Statement.{statement}
 use Rattle.matching.proofs.inner.widened.Tie as tie
@@ -16,14 +17,14 @@ higher-requires-2 : tie.Need-higher-requires-2
 higher-requires-2 c κs = search needs
 
 returns : tie.Need-returns
-unfolding lowest highest
 returns c = let low = c .before in
     let row = low .before in
+    let p = row .before .before .args .p in
     λ q ps h. record {
-      minRow = rw (row .before .lower .ensures, h .minRow);
-      maxRow = rw (row .higher .ensures, h .maxRow);
-      minScan = rw (low .lower2 .ensures, h .minScan);
-      maxScan = rw (c .higher2 .ensures, h .maxScan);
+      minRow = rw (extreme-cons min _ lowest-choice _ p q ps, row .before .lower .ensures, h .minRow);
+      maxRow = rw (extreme-cons max _ highest-choice _ p q ps, row .higher .ensures, h .maxRow);
+      minScan = rw (extreme-cons min _ lowest-choice _ p q ps, low .lower2 .ensures, h .minScan);
+      maxScan = rw (extreme-cons max _ highest-choice _ p q ps, c .higher2 .ensures, h .maxScan);
     }
 
 pub widened-spec : {M : Type 1} → statement M

@@ -2,7 +2,8 @@ use mathlib.Core.Path.{_≡_, ap, _∙_}
 use mathlib.Core.List.{[], _∷_, _++_}
 use Rattle.merging.specs.Merging.{groupWord}
 use Rattle.merging.specs.Walk.{stateOf}
-use Rattle.merging.proofs.Laws.{extreme-join, any-join, all-join, first-join, sum-having, any-having, first-having}
+use Rattle.peaklist.proofs.Extremes.{extreme-join}
+use Rattle.merging.proofs.Laws.{any-join, all-join, first-join, sum-having, any-having, first-having}
 use borrow.Author.Needs.{needs}
 use Rattle.merging.proofs.inner.join.Statement.{statement}
 use Rattle.merging.proofs.inner.join.Tie as tie

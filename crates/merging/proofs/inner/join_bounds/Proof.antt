@@ -1,4 +1,4 @@
-use Rattle.merging.proofs.Laws.{extreme-join}
+use Rattle.peaklist.proofs.Extremes.{extreme-join}
 use Rattle.merging.specs.Walk.{boundsOf}
 use borrow.Author.Needs.{needs}
 use Rattle.merging.proofs.inner.join_bounds.Statement.{statement}

@@ -1,6 +1,7 @@
 use mathlib.Core.Path.{refl}
 use Rattle.numeric.proofs.Laws.{and-true}
-use Rattle.merging.specs.Merging.{extreme, isAny, haveAll, firstOf}
+use Rattle.peaklist.specs.Extremes.{extreme, isAny}
+use Rattle.merging.specs.Merging.{haveAll, firstOf}
 use Rattle.merging.specs.Walk.{stateOf}
 use Rattle.merging.proofs.Laws.{sum-having-one, any-having-one, first-having-one}
 use borrow.Author.Needs.{needs}

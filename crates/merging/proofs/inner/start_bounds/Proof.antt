@@ -1,5 +1,5 @@
 use mathlib.Core.Path.{refl}
-use Rattle.merging.specs.Merging.{extreme}
+use Rattle.peaklist.specs.Extremes.{extreme}
 use Rattle.merging.specs.Walk.{boundsOf}
 use Rattle.merging.proofs.inner.start_bounds.Statement.{statement}
 use Rattle.merging.proofs.inner.start_bounds.Tie as tie

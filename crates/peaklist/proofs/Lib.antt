@@ -1,0 +1,3 @@
+-- Laws that proofs use.
+pub mod Extremes
+pub mod PeakListLaws
