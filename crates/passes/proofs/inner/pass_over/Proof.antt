@@ -3,8 +3,8 @@ use native.Mathlib.Omega.{arith}
 use borrow.Author.Needs.{needs}
 use lib.ListN.{length, drop, take}
 use lib.Seq.{length-take-le, drop-at}
-use Rattle.stitch.proofs.inner.pass_over.Statement.{statement}
-use Rattle.stitch.proofs.inner.pass_over.Tie as tie
+use Rattle.passes.proofs.inner.pass_over.Statement.{statement}
+use Rattle.passes.proofs.inner.pass_over.Tie as tie
 
 slice-relend-prefix-pass : tie.Need-slice-relend-prefix-pass
 slice-relend-prefix-pass c = search needs

@@ -7,10 +7,10 @@ use lib.ListN.{length, drop}
 use Rattle.record.specs.Record.{size}
 use Rattle.ordering.specs.Ordering.{keyAt, sortedBy, Within}
 use Rattle.grouping.specs.Grouping.{groups, groupWords, marked, Columned}
-use Rattle.stitch.specs.Stitching.{upTo, passGroups}
-use Rattle.stitch.proofs.StitchingLaws.{upto-within, order-length, order-within, order-columned, pass-column}
-use Rattle.stitch.proofs.inner.pass.Statement.{statement}
-use Rattle.stitch.proofs.inner.pass.Tie as tie
+use Rattle.passes.specs.Stitching.{upTo, passGroups}
+use Rattle.passes.proofs.StitchingLaws.{upto-within, order-length, order-within, order-columned, pass-column}
+use Rattle.passes.proofs.inner.pass.Statement.{statement}
+use Rattle.passes.proofs.inner.pass.Tie as tie
 
 count-up-requires : tie.Need-count-up-requires
 count-up-requires c κs = search needs

@@ -6,11 +6,11 @@ use borrow.Author.Needs.{needs}
 use lib.ListN.{length, drop, take}
 use lib.Seq.{length-take-le}
 use Rattle.record.specs.Record.{size}
-use Rattle.stitch.specs.Stitching.{numberIn, passGroups, secondRule}
-use Rattle.stitch.proofs.StitchingLaws.{column-rest}
-use Rattle.stitch.proofs.Laws.{later, fewer, made-rest, second-groups, second-words, first-number, owned}
-use Rattle.stitch.proofs.inner.stitch_peaks.Statement.{statement}
-use Rattle.stitch.proofs.inner.stitch_peaks.Tie as tie
+use Rattle.passes.specs.Stitching.{numberIn, passGroups, secondRule}
+use Rattle.passes.proofs.StitchingLaws.{column-rest}
+use Rattle.passes.proofs.Laws.{later, fewer, made-rest, second-groups, second-words, first-number, owned}
+use Rattle.passes.proofs.inner.stitch_peaks.Statement.{statement}
+use Rattle.passes.proofs.inner.stitch_peaks.Tie as tie
 
 pass-over-requires : tie.Need-pass-over-requires
 pass-over-requires c κs = search needs
