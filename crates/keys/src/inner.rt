@@ -62,3 +62,95 @@ pub fn is_same_bucket(x: Bucket, y: Bucket) -> bool
     (x.there == y.there) & (x.group == y.group) & (x.scans == y.scans) & (x.rows == y.rows)
 }
 
+// How many words a key has.
+pub fn width_of(rule: KeyRule) -> usize
+    ensures { λ r. ⌜ r ≡ widthOf rule ⌝ }
+{
+    match rule {
+        KeyRule::First(_) => 8,
+        KeyRule::Second => 6,
+        KeyRule::Identity => 1,
+    }
+}
+
+// Writes the key of the first pass to the front of `out`.
+fn put_first_key(out: &mut [u32], p: ImPeak1D, params: StitchParams)
+    requires { ⌜ 8 ≤ length (now out) ⌝ }
+    ensures { λ _. ⌜ now (out .exit) ≡ keyOf (First params) p ++ drop 8 (now (out .entry)) ⌝ }
+{
+    let b = bucket_of(p, params);
+    out[0] = b.there;
+    out[1] = b.group;
+    out[2] = b.scans;
+    out[3] = b.rows;
+    out[4] = p.scan;
+    out[5] = p.rt_lo;
+    out[6] = p.tof_row;
+    out[7] = p.id;
+}
+
+// That of the second pass.
+fn put_second_key(out: &mut [u32], p: ImPeak1D)
+    requires { ⌜ 6 ≤ length (now out) ⌝ }
+    ensures { λ _. ⌜ now (out .exit) ≡ keyOf Second p ++ drop 6 (now (out .entry)) ⌝ }
+{
+    let g = matching::inner::group_of(p);
+    out[0] = g.there;
+    out[1] = g.number;
+    out[2] = p.tof_row;
+    out[3] = p.scan;
+    out[4] = p.rt_lo;
+    out[5] = p.id;
+}
+
+// The identity alone.
+fn put_id_key(out: &mut [u32], p: ImPeak1D)
+    requires { ⌜ 1 ≤ length (now out) ⌝ }
+    ensures { λ _. ⌜ now (out .exit) ≡ keyOf Identity p ++ drop 1 (now (out .entry)) ⌝ }
+{
+    out[0] = p.id;
+}
+
+fn put_first(list: &[u32], n: usize, params: StitchParams, table: &mut [u32])
+    requires { ⌜ (n * size ≤ length (now list)) × (n * 8 ≤ length (now table)) ⌝ }
+    ensures { λ _. ⌜ now (table .exit) ≡ keyTable (First params) (peaksOf (now (list .entry)) n) ++ drop (n * 8) (now (table .entry)) ⌝ }
+{
+    for k in 0..n {
+        let p = record::inner::peak_at(list, k);
+        let at = k * 8;
+        put_first_key(&mut table[at..], p, params);
+    }
+}
+
+fn put_second(list: &[u32], n: usize, table: &mut [u32])
+    requires { ⌜ (n * size ≤ length (now list)) × (n * 6 ≤ length (now table)) ⌝ }
+    ensures { λ _. ⌜ now (table .exit) ≡ keyTable Second (peaksOf (now (list .entry)) n) ++ drop (n * 6) (now (table .entry)) ⌝ }
+{
+    for k in 0..n {
+        let p = record::inner::peak_at(list, k);
+        let at = k * 6;
+        put_second_key(&mut table[at..], p);
+    }
+}
+
+fn put_ids(list: &[u32], n: usize, table: &mut [u32])
+    requires { ⌜ (n * size ≤ length (now list)) × (n ≤ length (now table)) ⌝ }
+    ensures { λ _. ⌜ now (table .exit) ≡ keyTable Identity (peaksOf (now (list .entry)) n) ++ drop n (now (table .entry)) ⌝ }
+{
+    for k in 0..n {
+        let p = record::inner::peak_at(list, k);
+        put_id_key(&mut table[k..], p);
+    }
+}
+
+// Writes the keys of the first n records to the front of `table`.
+pub fn put_keys(list: &[u32], n: usize, rule: KeyRule, table: &mut [u32])
+    requires { ⌜ (n * size ≤ length (now list)) × (n * widthOf rule ≤ length (now table)) ⌝ }
+    ensures { λ _. ⌜ now (table .exit) ≡ keyTable rule (peaksOf (now (list .entry)) n) ++ drop (n * widthOf rule) (now (table .entry)) ⌝ }
+{
+    match rule {
+        KeyRule::First(params) => put_first(list, n, params, table),
+        KeyRule::Second => put_second(list, n, table),
+        KeyRule::Identity => put_ids(list, n, table),
+    }
+}
