@@ -3,6 +3,7 @@
 //! `oracle compare [N [WORD]]` compares every function on N seeded inputs (a million by default), or those of the level with that
 //! word in its name, and exits with 1 on a difference.
 //! `oracle sample [SEED TIMES]` prints the answers that the program `replay_answers` replays; those stored beside it by default.
+//! `oracle sample stitching [SEED TIMES]` prints those of `replay_stitching`.
 //! `oracle bench [WORD]` times both sides and prints ratios, of the lines with that word in their name.
 mod bench;
 mod grid_level;
@@ -14,7 +15,9 @@ mod row_level;
 mod rows;
 mod sample;
 mod shapes;
+mod stitch_bench;
 mod stitch_level;
+mod stitch_sample;
 mod tof_level;
 mod words;
 
@@ -72,12 +75,14 @@ fn main() {
             }
         }
         Some("sample") => {
-            let given = |k: usize, other| words.get(k).map_or(other, |n| n.parse().expect("a number"));
-            sample::print(given(2, 4), given(3, 1) as u32);
+            let stitching = words.get(2).is_some_and(|w| w == "stitching");
+            let given = |k: usize, other| words.get(k + stitching as usize).map_or(other, |n| n.parse().expect("a number"));
+            let print = if stitching { stitch_sample::print } else { sample::print };
+            print(given(2, 4), given(3, 1) as u32);
         }
         Some("bench") => bench::run(words.get(2).map_or("", String::as_str)),
         _ => {
-            eprintln!("usage: oracle compare [N [WORD]] | oracle sample [SEED TIMES] | oracle bench [WORD]");
+            eprintln!("usage: oracle compare [N [WORD]] | oracle sample [stitching] [SEED TIMES] | oracle bench [WORD]");
             std::process::exit(2);
         }
     }

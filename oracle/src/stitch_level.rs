@@ -290,7 +290,11 @@ pub fn list(r: &mut Rng, n: usize, p: &StitchParams) -> Vec<u32> {
             let group = if groups == 3 { r.pick(&[0, 1]) } else { c.group };
             let flags = grouped as u32 | r.below(4) as u32 * 2;
             // the word of a missing field is not looked at, whatever it holds
-            let float = |r: &mut Rng, there: bool, most: u32| if there { r.below(most as u64 + 1) as u32 } else { r.next() as u32 };
+            let float = |r: &mut Rng, there: bool| match r.below(2) {
+                _ if !there => r.next() as u32,
+                0 => r.below(0x4980_0001) as u32,
+                _ => (r.below(1 << 20) as f32 / 1024.0).to_bits(),
+            };
             let height = |r: &mut Rng| if r.one_in(2) { (r.below(values) as f32).to_bits() } else { r.below(0x5000_0001) as u32 };
             let rows = (c.row + r.below(rows as u64 + 1) as u32).min(4_194_303);
             let anywhere = r.below(4_259_840) as u32;
@@ -303,12 +307,12 @@ pub fn list(r: &mut Rng, n: usize, p: &StitchParams) -> Vec<u32> {
             w.extend(ends(r, scan, wide, 16_383));
             w.push(scan_abs);
             w.extend(ends(r, scan_abs, wide_abs, 65_535));
-            w.extend([float(r, flags & 4 != 0, 0x4980_0000), float(r, flags & 2 != 0, 0x4980_0000)]);
+            w.extend([float(r, flags & 4 != 0), float(r, flags & 2 != 0)]);
             w.extend([height(r), height(r), height(r)]);
             let x = r.below(0x477f_ff01) as u32;
             w.extend([x, x + r.below(0x477f_ff01 - x as u64) as u32, r.below(65_537) as u32]);
-            let part = r.below(0x3f00_0001) as u32;
-            let subscan = r.pick(&[0, 0x3f00_0000, part, part]) | r.pick(&[0, 1 << 31]);
+            let (part, tiny) = ((r.below(1_001) as f32 / 2_000.0).to_bits(), r.below(0x3f00_0001) as u32);
+            let subscan = r.pick(&[0, 0x3f00_0000, part, part, part, tiny]) | r.pick(&[0, 1 << 31]);
             w.extend([area(r, areas).to_bits(), subscan, ids.next().unwrap()]);
             w
         })
