@@ -459,9 +459,16 @@ pub fn compare(t: &mut Tally, count: u64) {
     }
     let mut r = Rng::new(8);
     for turn in 0..count {
-        let n = if turn % 25_000 == 24_999 { 65_536 } else { size(&mut r) };
+        let longest = turn % 25_000 == 24_999;
+        let n = if longest { 65_536 } else { size(&mut r) };
         let mut call = sample(&mut r, n);
-        while n < 65_536 && r.one_in(4) {
+        if longest {
+            one(t, &call);
+            let at = |r: &mut Rng| r.below(n as u64) as usize * WORDS + 26;
+            let (a, b) = (at(&mut r), at(&mut r));
+            call.list[a] = call.list[b];
+        }
+        while !longest && r.one_in(4) {
             spoil(&mut r, &mut call);
         }
         one(t, &call);
