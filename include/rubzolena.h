@@ -1,18 +1,21 @@
-/* Grid detection of Rubzolena, from the static library libcapi.a ('rt staticlib capi').
+/* Grid detection and stitching of Rubzolena, from the static library libcapi.a ('rt staticlib capi').
  *
- * Lists are bytes: words of four bytes, the lowest first; a float is the word of its IEEE 754 binary32 bit pattern. A length
- * is that of the bytes. No alignment is asked for. From 0 to a limit, for a float, means with a clear sign: minus zero,
- * negative values, infinities and NaNs are out of range.
+ * A list is words of 32 bits; a float in it is the word of its IEEE 754 binary32 bit pattern. Grid detection takes its lists as
+ * bytes, four a word, the lowest first, asks for no alignment, and counts a length in bytes. Stitching takes words, aligned as
+ * uint32_t is, and counts a length in words. From 0 to a limit, for a float, means with a clear sign: minus zero, negative
+ * values, infinities and NaNs are out of range.
  *
- * Every value may be handed in: sizes, numbers and the bytes of the lists are all judged, and what cannot be worked through is
+ * Every value may be handed in: sizes, numbers and what the lists hold are all judged, and what cannot be worked through is
  * answered with a number (below). Pointers cannot be judged, so the caller answers for these:
- *   - each pointer is valid for as many bytes as its length says: for reading, and `out` for writing;
+ *   - each pointer is valid for as many bytes or words as its length says: for reading, and those that are not const for
+ *     writing too;
  *   - NULL goes with length 0, and with no other;
- *   - the bytes of `out` overlap those of no other list. The lists that are read may overlap one another;
- *   - while the function runs nobody else writes to any of the lists, nor reads from `out`.
+ *   - a list that is written (`out`, and in stitching `owners`, `order`, `groups`, `keys` and `merged`) overlaps no other list.
+ *     Lists that are only read may overlap one another;
+ *   - while a function runs nobody else writes to any of its lists, nor reads from those that are written.
  *
- * The function keeps nothing, allocates nothing and needs less than 1 MiB of stack (some 0.5 MiB for rows of more than 1,024
- * columns). It may be called from several threads at once, each with an `out` of its own. */
+ * The functions keep nothing, allocate nothing and need less than 1 MiB of stack (some 0.5 MiB for rows of more than 1,024
+ * columns). They may be called from several threads at once, each with written lists of its own. */
 #ifndef RUBZOLENA_H
 #define RUBZOLENA_H
 
@@ -26,20 +29,24 @@ extern "C" {
 /* Words of a record (108 bytes), in this order: tof_row, tof_center, tof_lo, tof_hi, rt_lo, rt_hi, frame_id_lo, frame_id_hi,
  * flags (bit 0 group, bit 1 mobility, bit 2 sigma), window_group, scan, left, right, scan_abs, left_abs, right_abs, scan_sigma,
  * mobility, apex_smoothed, apex_raw, prominence, left_x, right_x, width_scans, area_raw, subscan, id. Floats are scan_sigma to
- * right_x, area_raw and subscan. A field whose flag is clear is missing, and its word is 0. docs/SCOPE.md says what each is. */
+ * right_x, area_raw and subscan. A field whose flag is clear is missing, and its word is written as 0. docs/SCOPE.md says what each is. */
 #define RUBZOLENA_RECORD_WORDS 27
 
-/* The numbers, of which the lowest that applies is answered. 8 to 10, 21 and 23 do not come from this function. */
+/* The numbers, of which the lowest that applies is answered: 1 to 7, 20 and 22 by grid detection; 1, 2, 4, 8, 9, 20 and 21 by
+ * stitching. 10 and 23 come from neither. */
 enum {
-    RUBZOLENA_LENGTHS = 1,         /* lengths that must agree do not, a list is no whole words, or rows and num_bins differ */
-    RUBZOLENA_TOO_LARGE = 2,       /* more than 4,194,304 rows or 16,384 columns */
-    RUBZOLENA_READING = 3,         /* a reading not from 0 to 2^32 */
-    RUBZOLENA_PARAMETER = 4,       /* a parameter or a mobility out of range, reversed bounds, or identities that could run out */
-    RUBZOLENA_TOF_OR_SCAN = 5,     /* tof_min or tof_max above 4,194,303, or a scan above 65,535 */
-    RUBZOLENA_WEIGHTS = 6,         /* weights of another form */
-    RUBZOLENA_NOT_RISING = 7,      /* scans that do not strictly rise */
-    RUBZOLENA_LIST_TOO_SHORT = 20, /* out has less room than the sizes allow peaks */
-    RUBZOLENA_SCALE = 22           /* a scale whose numbers disagree */
+    RUBZOLENA_LENGTHS = 1,            /* lengths that must agree do not, a list is no whole words or records, or rows and num_bins differ */
+    RUBZOLENA_TOO_LARGE = 2,          /* more than 4,194,304 rows, 16,384 columns, or 65,536 peaks to stitch */
+    RUBZOLENA_READING = 3,            /* a reading not from 0 to 2^32 */
+    RUBZOLENA_PARAMETER = 4,          /* a parameter or a mobility out of range, reversed bounds, or identities that could run out */
+    RUBZOLENA_TOF_OR_SCAN = 5,        /* tof_min or tof_max above 4,194,303, or a scan above 65,535 */
+    RUBZOLENA_WEIGHTS = 6,            /* weights of another form */
+    RUBZOLENA_NOT_RISING = 7,         /* scans that do not strictly rise */
+    RUBZOLENA_IDENTITY_TWICE = 8,     /* two peaks to stitch with one identity */
+    RUBZOLENA_RECORD = 9,             /* a record with reversed bounds or a field out of range */
+    RUBZOLENA_LIST_TOO_SHORT = 20,    /* out, or owners, has less room than the sizes allow peaks */
+    RUBZOLENA_SCRATCH_TOO_SHORT = 21, /* scratch shorter than the list to stitch */
+    RUBZOLENA_SCALE = 22              /* a scale whose numbers disagree */
 };
 
 /* The mobility peaks of all rows of a TOF grid. A number in brackets is the one that is answered where the words before it do
@@ -84,6 +91,51 @@ uint64_t rubzolena_detect_im_peaks(
     const uint8_t *weights, size_t weights_len,
     uint32_t first,
     uint8_t *out, size_t out_len);
+
+/* The peaks of a list, of one grid or of many, with those that belong together merged. n is the count of its records. A number in
+ * brackets is the one that is answered where the words before it do not hold.
+ *
+ * Two passes: the first sorts the peaks into buckets by window group, scan and row and merges runs of neighbours in each, the
+ * second does so with all merged peaks. A peak joins the run before it if it agrees with the last of it (overlaps, shares, group,
+ * row, apexes) and the rows and absolute scans of the whole run stay within the deltas. docs/SCOPE.md says what a merged peak is;
+ * docs/DIFFERENCES.md names its corners: a merged peak's own record may be one that 9 refuses.
+ *
+ * list             records, whole ones (1), to 65,536 of them (2), no identity twice (8), each with every field in its range and
+ *                  no low bound above its high one (9). The ranges: tof_row to 4,194,303; tof_center, tof_lo and tof_hi to
+ *                  4,259,839; rt_lo, rt_hi, scan, left and right to 16,383; scan_abs, left_abs and right_abs to 65,535; flags
+ *                  to 7; scan_sigma and mobility from 0 to 2^20; apex_smoothed, apex_raw and prominence from 0 to 2^33; left_x
+ *                  and right_x from 0 to 65,535; width_scans to 65,536; area_raw from 0 to 2^50; subscan from -0.5 to 0.5,
+ *                  minus zero too; frame numbers, window_group and id any. The word of a missing field is not looked at
+ * min_overlap_frames   the least overlap of the frames rt_lo to rt_hi, ends counted, to 65,535 (4)
+ * max_scan_delta   the most by which absolute scans of a run differ, to 65,535 (4); 0: any. Also the width of the first pass's
+ *                  buckets by scan, and 0 stands for 1 there
+ * jaccard_min      the least share of the overlap in the union of the frames, from 0 to 1 (4); 0: any
+ * max_tof_row_delta    the most by which the rows of a run differ, to 65,535 (4); 0: any. The first pass's buckets have one row
+ *                  more than that, so that 0 means the same row there
+ * allow_cross_groups   1: window groups do not matter; 0: they must be equal, or both missing; else 4. Merged peaks of unequal
+ *                  groups have none
+ * min_im_overlap_scans the least overlap of left to right, ends counted, to 65,535 (4)
+ * im_jaccard_min   the least share of that overlap in their union, from 0 to 1 (4); 0: any
+ * require_mutual_apex_inside   1: both absolute scans must lie in the overlap of left_abs to right_abs; 0: any; else 4
+ * out              room for n records (20)
+ * owners           a word a record (20)
+ * order, groups    scratch: a word a record each (21)
+ * keys, merged     scratch: 27 words a record each (21)
+ *
+ * Returns 64 times the count of stitched peaks. Their records then stand at the front of out, and at the front of owners stands,
+ * for each record of list, the place of its stitched peak. Past that out and owners are as they were; scratch may have changed
+ * in the words that are asked for, and nowhere else. Or returns, from 1 to 63, the number that says why nothing was done, and all
+ * six written lists are as they were. 0 is a count of 0. */
+uint64_t rubzolena_stitch_im_peaks(
+    const uint32_t *list, size_t list_len,
+    uint32_t min_overlap_frames, uint32_t max_scan_delta, float jaccard_min, uint32_t max_tof_row_delta,
+    uint32_t allow_cross_groups, uint32_t min_im_overlap_scans, float im_jaccard_min, uint32_t require_mutual_apex_inside,
+    uint32_t *out, size_t out_len,
+    uint32_t *owners, size_t owners_len,
+    uint32_t *order, size_t order_len,
+    uint32_t *groups, size_t groups_len,
+    uint32_t *keys, size_t keys_len,
+    uint32_t *merged, size_t merged_len);
 
 #ifdef __cplusplus
 }

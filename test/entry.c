@@ -1,4 +1,5 @@
-/* Calls the C entry from C: null pointers with length 0, a list too short, a row with one peak, sizes without readings. */
+/* Calls the C entries from C: null pointers with length 0, lists too short, a row with one peak, sizes without readings; two peaks
+ * that are stitched. */
 #include <stdio.h>
 #include <string.h>
 
@@ -6,6 +7,15 @@
 
 static uint64_t detect(size_t rows, size_t cols, const uint8_t *data, size_t data_len, const uint8_t *scans, size_t scans_len, uint8_t *out, size_t out_len) {
     return rubzolena_detect_im_peaks(rows, cols, data, data_len, NULL, 0, scans, scans_len, 0, 0, 1, 1, 0, 0, 0, 0, 0, 0, NULL, 0, 0.0f, 0, 0, NULL, 0, 7, out, out_len);
+}
+
+static uint32_t owners[2], order[2], groups[2], keys[2 * RUBZOLENA_RECORD_WORDS], merged[2 * RUBZOLENA_RECORD_WORDS];
+
+/* Stitches n records with buffers for `room` of them. */
+static uint64_t stitch(const uint32_t *list, size_t n, uint32_t *out, size_t room) {
+    const size_t words = RUBZOLENA_RECORD_WORDS * room;
+    return rubzolena_stitch_im_peaks(list, RUBZOLENA_RECORD_WORDS * n, 0, 0, 0.0f, 0, 0, 0, 0.0f, 0,
+        out, words, owners, room, order, room, groups, room, keys, words, merged, words);
 }
 
 static int failed = 0;
@@ -32,5 +42,17 @@ int main(void) {
     expect("the byte after it", out[108], 0xaa);
     expect("no columns", detect(1, 0, NULL, 0, NULL, 0, NULL, 0), 0);
     expect("sizes without readings", detect(4194304, 2048, NULL, 0, NULL, 0, NULL, 0), RUBZOLENA_LENGTHS);
+
+    uint32_t list[2 * RUBZOLENA_RECORD_WORDS] = {0}, stitched[2 * RUBZOLENA_RECORD_WORDS];
+    memset(stitched, 0xaa, sizeof stitched);
+    expect("an identity twice", stitch(list, 2, stitched, 2), RUBZOLENA_IDENTITY_TWICE);
+    list[26] = 9;
+    list[53] = 5;
+    expect("room for one of two", stitch(list, 2, stitched, 1), RUBZOLENA_LIST_TOO_SHORT);
+    expect("the list then", stitched[0], 0xaaaaaaaa);
+    expect("two peaks that are one", stitch(list, 2, stitched, 2), 64);
+    expect("its identity", stitched[26], 5);
+    expect("the word after it", stitched[27], 0xaaaaaaaa);
+    expect("no peaks", rubzolena_stitch_im_peaks(NULL, 0, 0, 0, 0.0f, 0, 0, 0, 0.0f, 0, NULL, 0, NULL, 0, NULL, 0, NULL, 0, NULL, 0, NULL, 0), 0);
     return failed;
 }

@@ -6,7 +6,7 @@ use crate::grid_level::{grid, rust_grid, rust_params, Lists};
 use crate::inputs::Rng;
 use crate::row_level::{gaussian, most, Row, WORDS};
 use crate::shapes::{named, Kind, KINDS, USUAL};
-use crate::{probe, words};
+use crate::{probe, stitch_bench, words};
 use rubzolena::{Grid, TofScale};
 use std::hint::black_box;
 
@@ -32,21 +32,27 @@ fn now() -> f64 {
 const SHARE: f64 = 60e6;
 const ROUNDS: u32 = 7;
 
-/// One side of a line: its work, and the least time of it in a round.
-struct Side<'a> {
+/// One side of a line: what is made ready for so many turns and not timed, its work, and the least time of it in a round.
+pub struct Side<'a> {
+    ready: Box<dyn FnMut(u64) + 'a>,
     work: Box<dyn FnMut() + 'a>,
-    least: f64,
+    pub least: f64,
     spent: f64,
 }
 
 impl<'a> Side<'a> {
-    fn new(work: impl FnMut() + 'a) -> Self {
-        Side { work: Box::new(work), least: f64::INFINITY, spent: 0.0 }
+    pub fn new(work: impl FnMut() + 'a) -> Self {
+        Side::after(|_| {}, work)
+    }
+
+    pub fn after(ready: impl FnMut(u64) + 'a, work: impl FnMut() + 'a) -> Self {
+        Side { ready: Box::new(ready), work: Box::new(work), least: f64::INFINITY, spent: 0.0 }
     }
 
     /// The work as often as its share allows, the first time once.
     fn round(&mut self) {
         let turns = (SHARE / ROUNDS as f64 / self.least).max(1.0).floor();
+        (self.ready)(turns as u64);
         let start = now();
         for _ in 0..turns as u64 {
             (self.work)();
@@ -58,7 +64,7 @@ impl<'a> Side<'a> {
 }
 
 /// Rounds of all sides by turns, till each has had its share.
-fn by_turns(sides: &mut [Side]) {
+pub fn by_turns(sides: &mut [Side]) {
     for _ in 0..=ROUNDS {
         for side in sides.iter_mut() {
             if side.spent < SHARE {
@@ -331,11 +337,12 @@ pub fn run(word: &str) {
     bench.slices();
     bench.smoothing();
     bench.grids();
+    stitch_bench::run(|what| bench.asked(what));
     bench.growth();
     bench.lowest();
 }
 
-fn line(what: &str, peaks: Option<f64>, rust: f64, port: f64) {
+pub fn line(what: &str, peaks: Option<f64>, rust: f64, port: f64) {
     let peaks = peaks.map_or(String::new(), |p| format!("{p:.0} peaks"));
     println!("{what:<62} {peaks:>13}  Rust {rust:>11.0} ns  port {port:>11.0} ns  ratio {:>7.2}", rust / port);
 }

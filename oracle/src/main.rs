@@ -1,7 +1,9 @@
 //! Compares the port with the Rust that it ports, bit for bit.
 //!
-//! `oracle compare [N]` compares every function on N seeded inputs (a million by default) and exits with 1 on a difference.
+//! `oracle compare [N [WORD]]` compares every function on N seeded inputs (a million by default), or those of the level with that
+//! word in its name, and exits with 1 on a difference.
 //! `oracle sample [SEED TIMES]` prints the answers that the program `replay_answers` replays; those stored beside it by default.
+//! `oracle sample stitching [SEED TIMES]` prints those of `replay_stitching`.
 //! `oracle bench [WORD]` times both sides and prints ratios, of the lines with that word in their name.
 mod bench;
 mod grid_level;
@@ -13,6 +15,9 @@ mod row_level;
 mod rows;
 mod sample;
 mod shapes;
+mod stitch_bench;
+mod stitch_level;
+mod stitch_sample;
 mod tof_level;
 mod words;
 
@@ -49,24 +54,35 @@ fn main() {
     match words.get(1).map(String::as_str) {
         Some("compare") => {
             let count = words.get(2).map_or(1_000_000, |n| n.parse().expect("a count"));
+            let word = words.get(3).map_or("", String::as_str);
+            let levels: [(&str, fn(&mut Tally, u64), u64); 6] = [
+                ("leaves", leaves::compare, 1),
+                ("apexes", rows::compare, 1),
+                ("records", records::compare, 10),
+                ("rows", row_level::compare, 2),
+                ("grids", grid_level::compare, 10),
+                ("stitching", stitch_level::compare, 4),
+            ];
             let mut tally = Tally { compared: 0, differ: 0 };
-            leaves::compare(&mut tally, count);
-            rows::compare(&mut tally, count);
-            records::compare(&mut tally, count / 10);
-            row_level::compare(&mut tally, count / 2);
-            grid_level::compare(&mut tally, count / 10);
+            for (name, compare, fewer) in levels {
+                if name.contains(word) {
+                    compare(&mut tally, count / fewer);
+                }
+            }
             println!("oracle: {} answers compared, {} differ", tally.compared, tally.differ);
             if tally.differ > 0 {
                 std::process::exit(1);
             }
         }
         Some("sample") => {
-            let given = |k: usize, other| words.get(k).map_or(other, |n| n.parse().expect("a number"));
-            sample::print(given(2, 4), given(3, 1) as u32);
+            let stitching = words.get(2).is_some_and(|w| w == "stitching");
+            let given = |k: usize, other| words.get(k + stitching as usize).map_or(other, |n| n.parse().expect("a number"));
+            let print = if stitching { stitch_sample::print } else { sample::print };
+            print(given(2, 4), given(3, 1) as u32);
         }
         Some("bench") => bench::run(words.get(2).map_or("", String::as_str)),
         _ => {
-            eprintln!("usage: oracle compare [N] | oracle sample [SEED TIMES] | oracle bench [WORD]");
+            eprintln!("usage: oracle compare [N [WORD]] | oracle sample [stitching] [SEED TIMES] | oracle bench [WORD]");
             std::process::exit(2);
         }
     }

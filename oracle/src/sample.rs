@@ -3,6 +3,7 @@ use crate::inputs::{any, length, place, row, Rng};
 use crate::leaves::area;
 use crate::rows::unfiltered;
 use crate::tof_level::{self, Asked};
+use crate::words::hexadecimal;
 use crate::{bits, cluster::utility, grid_level, records, row_level};
 use rubzolena::{Grid, TofScale};
 
@@ -30,8 +31,7 @@ const HEAD: &str = "\
 #    the number, the count and the words of the list";
 
 fn line(function: u32, words: &[u32]) {
-    let text: Vec<String> = words.iter().map(|w| format!("{w:x}")).collect();
-    println!("{function:x} {}", text.join(" "));
+    println!("{function:x} {}", hexadecimal(words));
 }
 
 /// Prints the corners, and seeded inputs of every kind that many times over.

@@ -21,6 +21,11 @@ pub fn list(peaks: &[ImPeak1D], first: u32) -> Vec<u32> {
     peaks.iter().enumerate().flat_map(|(k, p)| words(p, first.wrapping_add(k as u32))).collect()
 }
 
+/// Words as the replay programs read them.
+pub fn hexadecimal(words: &[u32]) -> String {
+    words.iter().map(|w| format!("{w:x}")).collect::<Vec<_>>().join(" ")
+}
+
 thread_local! {
     static TABLE: RefCell<Vec<f32>> = const { RefCell::new(Vec::new()) };
 }

@@ -1,5 +1,20 @@
-//! A short pipeline: a grid of two rows is searched, and its peaks are printed; then the same grid with a bad reading.
-use rubzolena::{Grid, TofScale};
+//! A short pipeline: a grid of two rows is searched, its peaks are printed, stitched and printed again; then the same grid with a
+//! bad reading.
+use rubzolena::{stitch, Grid, StitchParams, TofScale};
+
+fn show(grid: Grid) -> Result<(), u32> {
+    let peaks = grid.detect()?;
+    for p in &peaks {
+        println!("peak {}: row {} scan {} mobility {:?} apex {} area {}", p.id(), p.tof_row(), p.scan(), p.mobility(), p.apex_raw(), p.area_raw());
+    }
+    let params = StitchParams { max_scan_delta: 1, max_tof_row_delta: 1, ..StitchParams::default() };
+    let (stitched, owners) = stitch(&peaks, params)?;
+    for p in &stitched {
+        println!("stitched {}: row {} scan {} apex {} area {}", p.id(), p.tof_row(), p.scan(), p.apex_raw(), p.area_raw());
+    }
+    println!("owners {owners:?}");
+    Ok(())
+}
 
 fn main() {
     let readings = [0.0, 4.0, 0.0, 8.0, 0.0, 0.0, 5.0, 5.0, 0.0, 0.0];
@@ -16,14 +31,7 @@ fn main() {
         first: 7,
         ..Grid::default()
     };
-    match grid.detect() {
-        Ok(peaks) => {
-            for p in &peaks {
-                println!("peak {}: row {} scan {} mobility {:?} apex {} area {}", p.id(), p.tof_row(), p.scan(), p.mobility(), p.apex_raw(), p.area_raw());
-            }
-        }
-        Err(number) => println!("refused, {number}"),
-    }
+    show(grid).expect("an accepted grid");
     let bad = [0.0, -1.0, 0.0, 8.0, 0.0, 0.0, 5.0, 5.0, 0.0, 0.0];
-    println!("with a negative reading: {:?}", Grid { data: &bad, ..grid }.detect().map(|peaks| peaks.len()));
+    println!("with a negative reading: {:?}", show(Grid { data: &bad, ..grid }));
 }

@@ -1,7 +1,11 @@
-//! Rubzolena's grid detection for Rust programs: safe functions over the C entry. Words and floats are handed over as they lie
-//! in memory, which is the entry's byte rule on a little-endian machine.
+//! Rubzolena's grid detection and stitching for Rust programs: safe functions over the C entries. Words and floats are handed
+//! over as they lie in memory, which is the byte rule of grid detection on a little-endian machine.
 #[cfg(not(target_endian = "little"))]
 compile_error!("the C entry takes little-endian words");
+
+mod stitching;
+
+pub use stitching::{stitch, stitch_into, Scratch, StitchParams};
 
 use std::mem::size_of_val;
 use std::slice::{from_raw_parts, from_raw_parts_mut};
@@ -87,6 +91,19 @@ impl Peak {
     }
 }
 
+/// The peaks of a list of records.
+fn peaks(list: &[u32]) -> Vec<Peak> {
+    list.chunks_exact(WORDS).map(|w| Peak(w.try_into().unwrap())).collect()
+}
+
+/// What an entry answered: a count, or a number.
+fn answered(answer: u64) -> Result<usize, u32> {
+    match (answer / 64, answer % 64) {
+        (count, 0) => Ok(count as usize),
+        (_, number) => Err(number as u32),
+    }
+}
+
 /// What the entry takes as a word: four bytes without padding. Private, so that there are no others.
 trait Word {}
 impl Word for u32 {}
@@ -122,10 +139,7 @@ impl Grid<'_> {
                 weights.as_ptr(), weights.len(), self.first, room.as_mut_ptr(), room.len(),
             )
         };
-        match (answer / 64, answer % 64) {
-            (count, 0) => Ok(count as usize),
-            (_, number) => Err(number as u32),
-        }
+        answered(answer)
     }
 
     /// The peaks, or a number. Nothing is allocated for a grid that a number below 20 refuses, whatever sizes it claims.
@@ -138,6 +152,6 @@ impl Grid<'_> {
         }
         let mut out = vec![0u32; self.most_peaks() * WORDS];
         let count = self.detect_into(&mut out)?;
-        Ok(out[..count * WORDS].chunks_exact(WORDS).map(|w| Peak(w.try_into().unwrap())).collect())
+        Ok(peaks(&out[..count * WORDS]))
     }
 }

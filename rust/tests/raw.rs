@@ -1,4 +1,4 @@
-//! The C entry called with raw bytes, as no safe caller does: byte lengths that are no whole words, and group flags above 1.
+//! The C entries called as no safe caller does: byte lengths that are no whole words, and flags above 1.
 use rubzolena as _;
 
 extern "C" {
@@ -10,6 +10,14 @@ extern "C" {
         mobility: *const u8, mobility_len: usize,
         min_prom: f32, min_distance_scans: u32, min_width_scans: u32,
         weights: *const u8, weights_len: usize, first: u32, out: *mut u8, out_len: usize,
+    ) -> u64;
+    fn rubzolena_stitch_im_peaks(
+        list: *const u32, list_len: usize,
+        min_overlap_frames: u32, max_scan_delta: u32, jaccard_min: f32, max_tof_row_delta: u32,
+        allow_cross_groups: u32, min_im_overlap_scans: u32, im_jaccard_min: f32, require_mutual_apex_inside: u32,
+        out: *mut u32, out_len: usize, owners: *mut u32, owners_len: usize,
+        order: *mut u32, order_len: usize, groups: *mut u32, groups_len: usize,
+        keys: *mut u32, keys_len: usize, merged: *mut u32, merged_len: usize,
     ) -> u64;
 }
 
@@ -92,5 +100,37 @@ fn a_flag_above_one() {
         refused(&Call { scans: bytes_of([3, 4, 5, 6, 65_536]), ..c.clone() }, 4, "a scan too high is 5");
         refused(&Call { data: bytes_of([0x8000_0000; 5]), ..c.clone() }, 3, "a reading out of range is lower");
         refused(&Call { mobility: vec![0; 3], ..c }, 1, "bytes that are no words are lower");
+    }
+}
+
+/// What stitching answers for two equal peaks with those identities, flags and parameter, and whether its buffers, of that many
+/// words each, are as they were.
+fn stitched(ids: [u32; 2], flags: [u32; 2], delta: u32, room: usize) -> (u64, bool) {
+    let mut list = [0u32; 54];
+    (list[26], list[53]) = (ids[0], ids[1]);
+    let mut buffers = [[0xa5a5_a5a5u32; 54]; 6];
+    let [out, owners, order, groups, keys, merged] = &mut buffers;
+    let r = unsafe {
+        rubzolena_stitch_im_peaks(
+            list.as_ptr(), list.len(), 0, delta, 0.0, 0, flags[0], 0, 0.0, flags[1],
+            out.as_mut_ptr(), room, owners.as_mut_ptr(), room, order.as_mut_ptr(), room,
+            groups.as_mut_ptr(), room, keys.as_mut_ptr(), room, merged.as_mut_ptr(), room,
+        )
+    };
+    (r, buffers.iter().flatten().all(|w| *w == 0xa5a5_a5a5))
+}
+
+#[test]
+fn a_flag_of_stitching_above_one() {
+    for flags in [[0, 0], [1, 0], [0, 1], [1, 1]] {
+        assert_eq!(stitched([1, 2], flags, 0, 54), (64, false));
+    }
+    for high in [2, 3, u32::MAX] {
+        for flags in [[high, 0], [1, high], [high, high]] {
+            assert_eq!(stitched([1, 2], flags, 0, 54), (4, true), "the flag alone");
+            assert_eq!(stitched([1, 2], flags, 65_536, 54), (4, true), "a parameter is 4 too");
+            assert_eq!(stitched([1, 1], flags, 0, 54), (4, true), "an identity twice is 8");
+            assert_eq!(stitched([1, 2], flags, 0, 0), (4, true), "short buffers are 20 and 21");
+        }
     }
 }

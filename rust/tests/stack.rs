@@ -1,10 +1,26 @@
-//! The C entry needs less than 1 MiB of stack, whatever the grid: the widest rows, smoothed and not, with as many peaks as they can have.
-use rubzolena::{Grid, TofScale};
+//! The C entries need less than 1 MiB of stack, whatever they are handed: the widest rows, smoothed and not, with as many peaks as
+//! they can have; the longest list to stitch, its identities in no order.
+use rubzolena::{stitch, Grid, Peak, StitchParams, TofScale};
 
 #[test]
 fn a_mebibyte_is_enough() {
-    let thread = std::thread::Builder::new().stack_size(1 << 20);
-    thread.spawn(widest).unwrap().join().unwrap();
+    for work in [widest, longest] {
+        let thread = std::thread::Builder::new().stack_size(1 << 20);
+        thread.spawn(work).unwrap().join().unwrap();
+    }
+}
+
+fn longest() {
+    let peak = |k: u32| {
+        let mut w = [0; rubzolena::WORDS];
+        (w[0], w[10], w[26]) = (k % 4_001, k % 13, k.wrapping_mul(0x9e37_79b1));
+        Peak(w)
+    };
+    let peaks: Vec<Peak> = (0..65_536).map(peak).collect();
+    for max_tof_row_delta in [0, 1, 65_535] {
+        let (stitched, owners) = stitch(&peaks, StitchParams { max_tof_row_delta, ..StitchParams::default() }).expect("an accepted list");
+        assert!(owners.iter().all(|k| (*k as usize) < stitched.len()));
+    }
 }
 
 fn widest() {
