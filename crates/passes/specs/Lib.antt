@@ -1,4 +1,5 @@
 -- The definitions that the contracts of `passes` cite, what is proved of them, and worked cases.
+pub mod Account
 pub mod Cases
 pub mod Stitching
 pub mod Steps
