@@ -1,3 +1,2 @@
--- The proofs of what specs/ states, and what the proofs of functions cite.
+-- What the proofs of functions cite.
 pub mod Laws
-pub mod OrderingLaws

@@ -1,4 +1,3 @@
--- The definitions that the contracts of `ordering` cite, what is proved of them, and worked cases.
+-- The definitions that the contracts of `ordering` cite, and worked cases.
 pub mod Ordering
-pub mod OrderingLaws
 pub mod Cases
