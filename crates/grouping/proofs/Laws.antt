@@ -1,19 +1,23 @@
 -- The walk over the places, step by step.
 use mathlib.Core.Path.{_≡_, refl, sym, ap, _∙_}
 use mathlib.Core.Bool.{true, false}
-use mathlib.Core.List.{List, [], _∷_, _++_, map, reverse, reverseAux, reverse-cons, foldl, foldl-append, append-assoc, append-nil}
+use mathlib.Core.List.{List, [], _∷_, _++_, map, reverse, reverseAux, reverse-cons, foldl, foldl-append, append-assoc, map-append}
 use Prim.Native.Nat.{ℕ, _+_, _*_, _<_, _≤_}
 use native.Mathlib.Omega.{arith}
 use native.Mathlib.Numerals.{add-one}
-use lib.ListN.{length, getD, take, drop, set, length-append, drop-of-length-le}
+use lib.ListN.{length, getD, take, drop, set, length-append, length-map, drop-of-length-le}
 use lib.Seq.{drop-cons, take-at, drop-append-add, drop-drop}
-use Rattle.record.specs.Record.{size, peakAt, wordsOf, withPeak}
+use Rattle.record.specs.Record.{size, wordsOf, withPeak}
+use Rattle.record.specs.declared.ImPeak1D.{ImPeak1D}
+use Rattle.peaklist.specs.PeakList.{nth, listWords}
+use Rattle.peaklist.proofs.PeakListLaws.{words-length, words-one}
+use Rattle.matching.specs.declared.StitchParams.{StitchParams}
+use Rattle.keys.specs.declared.KeyRule.{KeyRule}
 use Rattle.merging.specs.Merging.{merged}
-use Rattle.ordering.specs.declared.inner.KeyRule.{KeyRule}
 use Rattle.grouping.specs.declared.inner.Open.{Open}
-use Rattle.grouping.specs.Grouping.{peaksAt, follows, groupsFrom, groups, mergedWords, groupWords, numbered, marked}
-use Rattle.grouping.proofs.GroupingLaws.{groups-join, groups-close, words-length, words-append}
-use Rattle.grouping.specs.Walk.{Opens}
+use Rattle.grouping.specs.Grouping.{peaksAt, follows, groupsFrom, groups, groupPeaks}
+use Rattle.grouping.specs.Walk.{Opens, numbered, marked}
+use Rattle.grouping.proofs.GroupingLaws.{groups-join, groups-close}
 
 -- ---- lists
 
@@ -35,26 +39,31 @@ fill-behind P R d out a r h e =
 
 -- ---- groups
 
-module _ (list : List ℕ) (rule : KeyRule) where
-  pub groups-none : (order : List ℕ) → length order ≡ 0 → groups list rule order ≡ []
+module _ (rule : KeyRule) (params : StitchParams) (ps : List ImPeak1D) where
+  pub groups-none : (order : List ℕ) → length order ≡ 0 → groups rule params ps order ≡ []
   unfolding groups
   groups-none [] h = refl
-  groups-none (p ∷ ps) h = absurd (omega arith)
+  groups-none (q ∷ qs) h = absurd (omega arith)
 
-  pub groups-start : (order : List ℕ) → 0 < length order → groups list rule order ≡ groupsFrom list rule (getD order 0 0 ∷ []) (drop 1 order)
+  pub groups-start : (order : List ℕ) → 0 < length order → groups rule params ps order ≡ groupsFrom rule params ps (getD order 0 0 ∷ []) (drop 1 order)
   unfolding groups
   groups-start [] h = absurd (omega arith)
-  groups-start (p ∷ ps) h = refl
+  groups-start (q ∷ qs) h = refl
 
 -- ---- what is written of one more
 
-pub words-one : (list : List ℕ) (gs : List (List ℕ)) (g : List ℕ) → groupWords list (gs ++ (g ∷ [])) ≡ groupWords list gs ++ mergedWords list g
-unfolding groupWords
-words-one list gs g = words-append list gs (g ∷ []) ∙ ap (λ (l : List ℕ). groupWords list gs ++ l) (append-nil (mergedWords list g))
+pub groups-one : (ps : List ImPeak1D) (gs : List (List ℕ)) (g : List ℕ) → listWords (groupPeaks ps (gs ++ (g ∷ []))) ≡ listWords (groupPeaks ps gs) ++ wordsOf (merged (peaksAt ps g))
+unfolding groupPeaks
+groups-one ps gs g =
+    ap listWords (map-append (λ h. merged (peaksAt ps h)) gs (g ∷ [])) ∙ words-one (map (λ h. merged (peaksAt ps h)) gs) (merged (peaksAt ps g))
+
+pub groups-words : (ps : List ImPeak1D) (gs : List (List ℕ)) → length (listWords (groupPeaks ps gs)) ≡ length gs * size
+unfolding groupPeaks
+groups-words ps gs = words-length (map (λ h. merged (peaksAt ps h)) gs) ∙ ap (λ (n : ℕ). n * size) (length-map gs (λ h. merged (peaksAt ps h)))
 
 pub numbered-one : (k : ℕ) (g : List ℕ) (q : ℕ) (column : List ℕ) → numbered k (reverse (q ∷ g)) column ≡ set (numbered k (reverse g) column) q k
 unfolding numbered
-numbered-one k g q column = ap (λ (ps : List ℕ). foldl (λ so p. set so p k) column ps) (reverse-cons q g) ∙ foldl-append (λ so p. set so p k) column (reverse g) (q ∷ [])
+numbered-one k g q column = ap (λ (qs : List ℕ). foldl (λ so p. set so p k) column qs) (reverse-cons q g) ∙ foldl-append (λ so p. set so p k) column (reverse g) (q ∷ [])
 
 pub marked-one : (k : ℕ) (gs : List (List ℕ)) (g column : List ℕ) → marked k (gs ++ (g ∷ [])) column ≡ numbered (k + length gs) g (marked k gs column)
 unfolding marked
@@ -67,32 +76,32 @@ marked-one k (f ∷ gs) g column =
 
 -- The walk has come to the i-th place: the groups `closed` are written, and the open one has the next number and the places
 -- `last` and `older`, newest first.
-pub record Walked (list : List ℕ) (rule : KeyRule) (order merged₀ column₀ : List ℕ) (i number : ℕ) (o : Open) (out column : List ℕ) : Type 0 where
+pub record Walked (rule : KeyRule) (params : StitchParams) (ps : List ImPeak1D) (order merged₀ column₀ : List ℕ) (i number : ℕ) (o : Open) (out column : List ℕ) : Type 0 where
   pub closed : List (List ℕ)
   pub last : ℕ
   pub older : List ℕ
-  pub whole : groups list rule order ≡ closed ++ groupsFrom list rule (last ∷ older) (drop i order)
+  pub whole : groups rule params ps order ≡ closed ++ groupsFrom rule params ps (last ∷ older) (drop i order)
   pub count : number ≡ length closed
-  pub opens : Opens rule o (peakAt list last) (peaksAt list older)
-  pub records : out ≡ groupWords list closed ++ drop (number * size) merged₀
+  pub opens : Opens rule o (nth ps last) (peaksAt ps older)
+  pub records : out ≡ listWords (groupPeaks ps closed) ++ drop (number * size) merged₀
   pub marks : column ≡ numbered number (reverse (last ∷ older)) (marked 0 closed column₀)
 
-module _ (list : List ℕ) (rule : KeyRule) (order merged₀ column₀ : List ℕ) where
-  pub walk-start : (o : Open) → 0 < length order → Opens rule o (peakAt list (getD order 0 0)) []
-      → Walked list rule order merged₀ column₀ 1 0 o merged₀ (set column₀ (getD order 0 0) 0)
-  unfolding groupWords numbered marked
+module _ (rule : KeyRule) (params : StitchParams) (ps : List ImPeak1D) (order merged₀ column₀ : List ℕ) where
+  pub walk-start : (o : Open) → 0 < length order → Opens rule o (nth ps (getD order 0 0)) []
+      → Walked rule params ps order merged₀ column₀ 1 0 o merged₀ (set column₀ (getD order 0 0) 0)
+  unfolding listWords groupPeaks numbered marked
   walk-start o h k = record {
     closed = [];
     last = getD order 0 0;
     older = [];
-    whole = groups-start list rule order h;
+    whole = groups-start rule params ps order h;
     count = refl;
     opens = k;
     records = refl;
     marks = refl;
   }
 
-  module _ (i number : ℕ) (o : Open) (out column : List ℕ) (w : Walked list rule order merged₀ column₀ i number o out column) where
+  module _ (i number : ℕ) (o : Open) (out column : List ℕ) (w : Walked rule params ps order merged₀ column₀ i number o out column) where
     group : List ℕ
     group = w .last ∷ w .older
 
@@ -110,45 +119,45 @@ module _ (list : List ℕ) (rule : KeyRule) (order merged₀ column₀ : List �
         let e : number ≡ 0 + length (w .closed) = omega (arith, w .count) in
         w .marks ∙ ap (λ (n : ℕ). numbered n (reverse group) (marked 0 (w .closed) column₀)) e ∙ sym (marked-one 0 (w .closed) (reverse group) column₀)
 
-    records-closed : withPeak out number (merged (reverse (peaksAt list group))) ≡ groupWords list closing ++ drop ((number + 1) * size) merged₀
-    unfolding closing withPeak mergedWords
+    records-closed : withPeak out number (merged (reverse (peaksAt ps group))) ≡ listWords (groupPeaks ps closing) ++ drop ((number + 1) * size) merged₀
+    unfolding closing withPeak
     records-closed =
         let e : (number + 1) * size ≡ number * size + size = omega arith in
-        let f : length (groupWords list (w .closed)) ≡ number * size = omega (arith, words-length list (w .closed), w .count) in
-        rw (e, words-one list (w .closed) (reverse group), map-reverse (peakAt list) group)
-        (fill-behind (groupWords list (w .closed)) (wordsOf (merged (reverse (peaksAt list group)))) merged₀ out (number * size) size f (w .records))
+        let f : length (listWords (groupPeaks ps (w .closed))) ≡ number * size = omega (arith, groups-words ps (w .closed), w .count) in
+        rw (e, groups-one ps (w .closed) (reverse group), map-reverse (nth ps) group)
+        (fill-behind (listWords (groupPeaks ps (w .closed))) (wordsOf (merged (reverse (peaksAt ps group)))) merged₀ out (number * size) size f (w .records))
 
     module _ (o′ : Open) (h : i < length order) where
       next : drop i order ≡ getD order i 0 ∷ drop (i + 1) order
       next = rw (add-one, drop-cons order i 0)
 
-      pub walk-join : follows rule (peaksAt list (w .last ∷ w .older)) (peakAt list (getD order i 0)) ≡ true
-          → Opens rule o′ (peakAt list (getD order i 0)) (peaksAt list (w .last ∷ w .older))
-          → Walked list rule order merged₀ column₀ (i + 1) number o′ out (set column (getD order i 0) number)
+      pub walk-join : follows rule params (peaksAt ps (w .last ∷ w .older)) (nth ps (getD order i 0)) ≡ true
+          → Opens rule o′ (nth ps (getD order i 0)) (peaksAt ps (w .last ∷ w .older))
+          → Walked rule params ps order merged₀ column₀ (i + 1) number o′ out (set column (getD order i 0) number)
       walk-join f k = record {
         closed = w .closed;
         last = getD order i 0;
         older = w .last ∷ w .older;
-        whole = w .whole ∙ ap (λ (qs : List ℕ). w .closed ++ groupsFrom list rule (w .last ∷ w .older) qs) next ∙ ap (λ gs. w .closed ++ gs) (groups-join list rule (w .last ∷ w .older) (getD order i 0) (drop (i + 1) order) f);
+        whole = w .whole ∙ ap (λ (qs : List ℕ). w .closed ++ groupsFrom rule params ps (w .last ∷ w .older) qs) next ∙ ap (λ gs. w .closed ++ gs) (groups-join rule params ps (w .last ∷ w .older) (getD order i 0) (drop (i + 1) order) f);
         count = w .count;
         opens = k;
         records = w .records;
         marks = ap (λ (l : List ℕ). set l (getD order i 0) number) (w .marks) ∙ sym (numbered-one number (w .last ∷ w .older) (getD order i 0) (marked 0 (w .closed) column₀));
       }
 
-      pub walk-close : follows rule (peaksAt list (w .last ∷ w .older)) (peakAt list (getD order i 0)) ≡ false
-          → Opens rule o′ (peakAt list (getD order i 0)) []
-          → (out′ : List ℕ) → out′ ≡ withPeak out number (merged (reverse (peaksAt list (w .last ∷ w .older))))
-          → Walked list rule order merged₀ column₀ (i + 1) (number + 1) o′ out′ (set column (getD order i 0) (number + 1))
+      pub walk-close : follows rule params (peaksAt ps (w .last ∷ w .older)) (nth ps (getD order i 0)) ≡ false
+          → Opens rule o′ (nth ps (getD order i 0)) []
+          → (out′ : List ℕ) → out′ ≡ withPeak out number (merged (reverse (peaksAt ps (w .last ∷ w .older))))
+          → Walked rule params ps order merged₀ column₀ (i + 1) (number + 1) o′ out′ (set column (getD order i 0) (number + 1))
       unfolding closing group numbered
       walk-close f k out′ e = record {
         closed = closing;
         last = getD order i 0;
         older = [];
         whole =
-            w .whole ∙ ap (λ (qs : List ℕ). w .closed ++ groupsFrom list rule group qs) next
-            ∙ ap (λ gs. w .closed ++ gs) (groups-close list rule group (getD order i 0) (drop (i + 1) order) f)
-            ∙ sym (append-assoc (w .closed) (reverse group ∷ []) (groupsFrom list rule (getD order i 0 ∷ []) (drop (i + 1) order)));
+            w .whole ∙ ap (λ (qs : List ℕ). w .closed ++ groupsFrom rule params ps group qs) next
+            ∙ ap (λ gs. w .closed ++ gs) (groups-close rule params ps group (getD order i 0) (drop (i + 1) order) f)
+            ∙ sym (append-assoc (w .closed) (reverse group ∷ []) (groupsFrom rule params ps (getD order i 0 ∷ []) (drop (i + 1) order)));
         count = count-closed;
         opens = k;
         records = e ∙ records-closed;
@@ -157,16 +166,16 @@ module _ (list : List ℕ) (rule : KeyRule) (order merged₀ column₀ : List �
 
     -- at the end
     module _ (h : length order ≤ i) where
-      all : groups list rule order ≡ closing
+      all : groups rule params ps order ≡ closing
       unfolding closing group groupsFrom
-      all = w .whole ∙ ap (λ (qs : List ℕ). w .closed ++ groupsFrom list rule group qs) (drop-of-length-le order {i = i} h)
+      all = w .whole ∙ ap (λ (qs : List ℕ). w .closed ++ groupsFrom rule params ps group qs) (drop-of-length-le order {i = i} h)
 
-      pub end-count : number + 1 ≡ length (groups list rule order)
+      pub end-count : number + 1 ≡ length (groups rule params ps order)
       end-count = count-closed ∙ ap length (sym all)
 
-      pub end-marks : column ≡ marked 0 (groups list rule order) column₀
+      pub end-marks : column ≡ marked 0 (groups rule params ps order) column₀
       end-marks = marks-closed ∙ ap (λ gs. marked 0 gs column₀) (sym all)
 
-      pub end-records : withPeak out number (merged (reverse (peaksAt list (w .last ∷ w .older)))) ≡ groupWords list (groups list rule order) ++ drop ((number + 1) * size) merged₀
+      pub end-records : withPeak out number (merged (reverse (peaksAt ps (w .last ∷ w .older)))) ≡ listWords (groupPeaks ps (groups rule params ps order)) ++ drop ((number + 1) * size) merged₀
       unfolding group
-      end-records = records-closed ∙ ap (λ gs. groupWords list gs ++ drop ((number + 1) * size) merged₀) (sym all)
+      end-records = records-closed ∙ ap (λ gs. listWords (groupPeaks ps gs) ++ drop ((number + 1) * size) merged₀) (sym all)

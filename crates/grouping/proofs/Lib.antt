@@ -1,4 +1,4 @@
 -- The proofs of what specs/ states, and what the proofs of functions cite.
 pub mod Laws
 pub mod GroupingLaws
-pub mod GroupedPeaks
+pub mod Fits

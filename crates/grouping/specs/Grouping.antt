@@ -1,6 +1,6 @@
 -- One pass of stitching over a list of peaks: the peaks are sorted, cut into groups in their order, and each group is merged into one
 -- peak. A group is the list of its members' places, in their order.
-use mathlib.Core.Bool.{Bool, true, cond, _&&_, _||_}
+use mathlib.Core.Bool.{Bool, true, false, cond, _&&_, _||_}
 use mathlib.Core.List.{List, [], _∷_, _++_, map, reverse}
 use Prim.Native.Nat.{ℕ, suc}
 use lib.Dec.{eqb}
@@ -12,6 +12,7 @@ use Rattle.matching.specs.declared.StitchParams.{StitchParams}
 use Rattle.matching.specs.Group.{mayJoin}
 use Rattle.keys.specs.declared.KeyRule.{KeyRule}
 use Rattle.keys.specs.declared.KeyRule.the-variants.{First, Second, Identity}
+use Rattle.keys.specs.declared.inner.Bucket.{Bucket}
 use Rattle.keys.specs.Keys.{bucketOf, isSameBucket, keyOf}
 use Rattle.merging.specs.Merging.{merged}
 
@@ -21,17 +22,17 @@ peaksAt ps g = map (nth ps) g
 
 -- ---- groups
 
--- whether two peaks may stand in one group as far as buckets go, which only the first pass has
-unfoldable pub inOneBucket : KeyRule → ImPeak1D → ImPeak1D → Bool
-inOneBucket (First params) a b = isSameBucket (bucketOf params a) (bucketOf params b)
-inOneBucket Second a b = true
-inOneBucket Identity a b = true
+-- the bucket of a peak, out of which no group reaches: only the first pass has more than one
+unfoldable pub bucketBy : KeyRule → ImPeak1D → Bucket
+bucketBy (First params) p = bucketOf params p
+bucketBy Second p = record { there = 0; group = 0; scans = 0; rows = 0 }
+bucketBy Identity p = record { there = 0; group = 0; scans = 0; rows = 0 }
 
--- Whether a peak may join an open group, whose peaks stand newest first: as the tests say, and in the first pass only within
--- a bucket. A group without members takes in any peak.
+-- Whether a peak may join an open group, whose peaks stand newest first: within a bucket, as the tests say. A group without members
+-- takes in any peak.
 unfoldable pub follows : KeyRule → StitchParams → List ImPeak1D → ImPeak1D → Bool
 follows rule params [] p = true
-follows rule params (last ∷ qs) p = inOneBucket rule last p && mayJoin params (last ∷ qs) p
+follows rule params (last ∷ qs) p = isSameBucket (bucketBy rule last) (bucketBy rule p) && mayJoin params (last ∷ qs) p
 
 -- the groups of an open one, whose places stand newest first, and of the places that are left
 unfoldable pub groupsFrom : KeyRule → StitchParams → List ImPeak1D → List ℕ → List ℕ → List (List ℕ)

@@ -12,11 +12,11 @@ join-requires : tie.Need-join-requires
 join-requires c κs = search needs
 
 returns : tie.Need-returns
-returns c = λ rule q ps h k. record {
+returns c = λ rule q qs h k. record {
   newest = refl;
-  key = k;
-  spans = c .before .widened .ensures q ps (h .spans);
-  sums = rw (reverse-cons (c .before .before .before .before .args .p) (q ∷ ps)) (c .join .ensures (reverse (q ∷ ps)) (h .sums));
+  bucket = k;
+  spans = c .before .widened .ensures q qs (h .spans);
+  sums = rw (reverse-cons (c .before .before .before .before .args .p) (q ∷ qs)) (c .join .ensures (reverse (q ∷ qs)) (h .sums));
 }
 
 pub joined-spec : {M : Type 1} → statement M

@@ -4,20 +4,22 @@ use Prim.Native.Nat.{ℕ, _≤_, _<_, _-_}
 use native.Mathlib.Omega.{arith}
 use borrow.Author.Needs.{needs}
 use lib.ListN.{length, getD, set, length-set}
-use Rattle.record.specs.Record.{peakAt}
-use Rattle.ordering.proofs.OrderingLaws.{at-index}
-use Rattle.grouping.specs.Grouping.{peaksAt, groupWords, marked}
+use Rattle.record.specs.declared.ImPeak1D.{ImPeak1D}
+use Rattle.peaklist.specs.PeakList.{nth, listWords}
+use Rattle.digits.proofs.SortedLaws.{at-index}
+use Rattle.grouping.specs.Grouping.{peaksAt, groupPeaks}
+use Rattle.grouping.specs.Walk.{Gathered, marked}
 use Rattle.grouping.proofs.Laws.{groups-none, Walked, walk-start, walk-join, walk-close, end-count, end-marks, end-records}
 use Rattle.grouping.proofs.inner.put_groups.Statement.{statement}
 use Rattle.grouping.proofs.inner.put_groups.Tie as tie
 
 abbrev Inv-loop : tie.InvT-loop
-Inv-loop list order rule merged₀ column₀ first open₀ number₀ i₀ merged column «open» number i =
-    ((start : List ℕ) → column₀ ≡ set start (getD order 0 0) 0 → Walked list rule order merged₀ start i number «open» merged column)
+Inv-loop sorted order rule params merged₀ column₀ first open₀ number₀ i₀ merged column «open» number i =
+    ((ps : List ImPeak1D) (start : List ℕ) → Gathered ps sorted order → column₀ ≡ set start (getD order 0 0) 0 → Walked rule params ps order merged₀ start i number «open» merged column)
     × (number < i) × (i ≤ length order) × (length merged ≡ length merged₀) × (length column ≡ length column₀)
 
 abbrev μ-loop : tie.MeasureT-loop
-μ-loop list order rule merged₀ column₀ first open₀ number₀ i₀ merged column «open» number i = length order - i
+μ-loop sorted order rule params merged₀ column₀ first open₀ number₀ i₀ merged column «open» number i = length order - i
 
 more : (c : tie.In-loop Inv-loop μ-loop) → c .before .loop .i < length (c .before .before .before .before .before .before .before .before .before .before .before .args .order .now)
 more c = omega arith
@@ -29,9 +31,11 @@ in-column c = let s = c .before .before .before .before .before .before .before 
     s .pre .1 (getD order (c .before .loop .i) 0) (at-index order (c .before .loop .i) (more c))
 
 returns : tie.Need-returns Inv-loop μ-loop
-unfolding groupWords marked
+unfolding listWords groupPeaks marked
 returns c = let s = c .before .before .before .before .before in
-    let none = groups-none (s .args .list .now) (s .args .rule) (s .args .order .now) (c .if1 .taken) in (rw none, (rw none, rw none))
+    λ ps h.
+    let none = groups-none (s .args .rule) (s .args .params) ps (s .args .order .now) (c .if1 .taken) in
+    record { counted = rw none; records = rw none; marks = rw none }
 
 shared-slice-read-first : tie.Need-shared-slice-read-first Inv-loop μ-loop
 shared-slice-read-first c = search needs
@@ -39,15 +43,14 @@ shared-slice-read-first c = search needs
 cast-first : tie.Need-cast-first Inv-loop μ-loop
 cast-first c = let s = c .before .before .before .before .before .before in
     let order = s .args .order .now in
-    record { fits = omega (arith, s .pre .1 (getD order 0 0) (at-index order 0 (omega arith)), s .good .1 .1 .1 .1 .0) }
+    record { fits = omega (arith, s .pre .1 (getD order 0 0) (at-index order 0 (omega arith)), s .good .1 .1 .1 .1 .1 .0) }
 
 peak-at-requires : tie.Need-peak-at-requires Inv-loop μ-loop
 peak-at-requires c κs = let s = c .before .before .before .before .before .before in
-    let order = s .args .order .now in
-    s .pre .0 (getD order 0 0) (at-index order 0 (omega arith))
+    omega (arith, s .pre .0)
 
-key-of-requires : tie.Need-key-of-requires Inv-loop μ-loop
-key-of-requires c κs = search needs
+bucket-by-requires : tie.Need-bucket-by-requires Inv-loop μ-loop
+bucket-by-requires c κs = search needs
 
 opened-requires : tie.Need-opened-requires Inv-loop μ-loop
 opened-requires c κs = search needs
@@ -55,7 +58,7 @@ opened-requires c κs = search needs
 mul-column : tie.Need-mul-column Inv-loop μ-loop
 mul-column c = let s = c .before .before .before .before .before .before .before .before .before in
     let order = s .args .order .now in
-    record { fits = omega (arith, s .pre .1 (getD order 0 0) (at-index order 0 (omega arith)), s .good .1 .1 .1 .1 .0) }
+    record { fits = omega (arith, s .pre .1 (getD order 0 0) (at-index order 0 (omega arith)), s .good .1 .1 .1 .1 .1 .0) }
 
 slice-write-column : tie.Need-slice-write-column Inv-loop μ-loop
 slice-write-column c = let s = c .before .before .before .before .before .before .before .before .before in
@@ -66,7 +69,7 @@ loop-holds : tie.Need-loop-holds Inv-loop μ-loop
 loop-holds c = let s = c .before .before .before .before .before .before .before .before .before in
     let order = s .args .order .now in
     let read = c .before .before .peak-at .ensures in (
-      λ start e. rw e (walk-start (s .args .list .now) (s .args .rule) order (s .args .merged .now) start (c .opened .result) (omega arith) (rw read at (c .opened .ensures (s .args .rule) (c .before .key-of .ensures)))),
+      λ ps start g e. rw e (walk-start (s .args .rule) (s .args .params) ps order (s .args .merged .now) start (c .opened .result) (omega arith) (rw (read ∙ g 0 (omega arith)) at (c .opened .ensures (s .args .rule) (c .before .bucket-by .ensures)))),
       omega arith,
       omega arith,
       refl,
@@ -82,16 +85,15 @@ shared-slice-read-place c = search needs
 cast-place : tie.Need-cast-place Inv-loop μ-loop
 cast-place c = let l = c .before .before in
     let s = l .before .before .before .before .before .before .before .before .before .before in
-    record { fits = omega (arith, in-column (c .before), s .good .1 .1 .1 .1 .0) }
+    record { fits = omega (arith, in-column (c .before), s .good .1 .1 .1 .1 .1 .0) }
 
 peak-at-requires-2 : tie.Need-peak-at-requires-2 Inv-loop μ-loop
 peak-at-requires-2 c κs = let l = c .before .before in
     let s = l .before .before .before .before .before .before .before .before .before .before in
-    let order = s .args .order .now in
-    s .pre .0 (getD order (l .loop .i) 0) (at-index order (l .loop .i) (omega arith))
+    omega (arith, s .pre .0)
 
-key-of-requires-2 : tie.Need-key-of-requires-2 Inv-loop μ-loop
-key-of-requires-2 c κs = search needs
+bucket-by-requires-2 : tie.Need-bucket-by-requires-2 Inv-loop μ-loop
+bucket-by-requires-2 c κs = search needs
 
 follows-requires : tie.Need-follows-requires Inv-loop μ-loop
 follows-requires c κs = search needs
@@ -102,7 +104,7 @@ joined-requires c κs = search needs
 mul-column-2 : tie.Need-mul-column-2 Inv-loop μ-loop
 mul-column-2 c = let l = c .before .before .before .before .before .before .before in
     let s = l .before .before .before .before .before .before .before .before .before .before in
-    record { fits = omega (arith, in-column (c .before .before .before .before .before .before), s .good .1 .1 .1 .1 .0) }
+    record { fits = omega (arith, in-column (c .before .before .before .before .before .before), s .good .1 .1 .1 .1 .1 .0) }
 
 slice-write-column-2 : tie.Need-slice-write-column-2 Inv-loop μ-loop
 slice-write-column-2 c = let l = c .before .before .before .before .before .before .before in
@@ -120,20 +122,21 @@ loop-less c = search needs
 loop-again : tie.Need-loop-again Inv-loop μ-loop
 loop-again c = let l = c .before .before .before .before .before .before .before in
     let s = l .before .before .before .before .before .before .before .before .before .before in
-    let list = s .args .list .now in
     let rule = s .args .rule in
+    let params = s .args .params in
     let order = s .args .order .now in
     let i = l .loop .i in
     let number = l .loop .number in
     let inv = l .loop .inv in
     let more-places = more (c .before .before .before .before .before .before) in
     let read = c .before .before .before .before .peak-at2 .ensures in
-    let key = c .before .before .before .key-of2 .ensures in
+    let bucket = c .before .before .before .bucket-by2 .ensures in
     let test = c .before .before .follows .ensures in (
-      λ start e. let w = inv .0 start e in
-          walk-join list rule order (s .args .merged .now) start i number (l .loop .«open») (l .loop .merged) (l .loop .column) w (c .joined .result) more-places
-          (rw read at (sym (test (peakAt list (w .last)) (peaksAt list (w .older)) (w .opens) key) ∙ c .before .if2 .taken))
-          (rw read at (c .joined .ensures rule (peakAt list (w .last)) (peaksAt list (w .older)) (w .opens) key)),
+      λ ps start g e. let w = inv .0 ps start g e in
+          let same = read ∙ g i more-places in
+          walk-join rule params ps order (s .args .merged .now) start i number (l .loop .«open») (l .loop .merged) (l .loop .column) w (c .joined .result) more-places
+          (rw same at (sym (test rule (nth ps (w .last)) (peaksAt ps (w .older)) (w .opens) bucket) ∙ c .before .if2 .taken))
+          (rw same at (c .joined .ensures rule (nth ps (w .last)) (peaksAt ps (w .older)) (w .opens) bucket)),
       omega arith,
       omega arith,
       inv .3,
@@ -156,7 +159,7 @@ add-number c = let l = c .before .before .before .before .before .before .before
 mul-column-3 : tie.Need-mul-column-3 Inv-loop μ-loop
 mul-column-3 c = let l = c .before .before .before .before .before .before .before .before .before .before .before in
     let s = l .before .before .before .before .before .before .before .before .before .before in
-    record { fits = omega (arith, in-column (c .before .before .before .before .before .before .before .before .before .before), s .good .1 .1 .1 .1 .0) }
+    record { fits = omega (arith, in-column (c .before .before .before .before .before .before .before .before .before .before), s .good .1 .1 .1 .1 .1 .0) }
 
 slice-write-column-3 : tie.Need-slice-write-column-3 Inv-loop μ-loop
 slice-write-column-3 c = let l = c .before .before .before .before .before .before .before .before .before .before .before in
@@ -174,21 +177,22 @@ loop-less-2 c = search needs
 loop-again-2 : tie.Need-loop-again-2 Inv-loop μ-loop
 loop-again-2 c = let l = c .before .before .before .before .before .before .before .before .before .before .before in
     let s = l .before .before .before .before .before .before .before .before .before .before in
-    let list = s .args .list .now in
     let rule = s .args .rule in
+    let params = s .args .params in
     let order = s .args .order .now in
     let i = l .loop .i in
     let number = l .loop .number in
     let inv = l .loop .inv in
     let more-places = more (c .before .before .before .before .before .before .before .before .before .before) in
     let read = c .before .before .before .before .before .before .before .before .peak-at2 .ensures in
-    let key = c .before .before .before .before .before .before .before .key-of2 .ensures in
+    let bucket = c .before .before .before .before .before .before .before .bucket-by2 .ensures in
     let test = c .before .before .before .before .before .before .follows .ensures in (
-      λ start e. let w = inv .0 start e in
-          walk-close list rule order (s .args .merged .now) start i number (l .loop .«open») (l .loop .merged) (l .loop .column) w (c .opened2 .result) more-places
-          (rw read at (sym (test (peakAt list (w .last)) (peaksAt list (w .older)) (w .opens) key) ∙ c .before .before .before .before .before .if2 .left))
-          (rw read at (c .opened2 .ensures rule key))
-          (c .before .before .before .put-merged .last .0) (c .before .before .before .put-merged .ensures rule (peakAt list (w .last)) (peaksAt list (w .older)) (w .opens)),
+      λ ps start g e. let w = inv .0 ps start g e in
+          let same = read ∙ g i more-places in
+          walk-close rule params ps order (s .args .merged .now) start i number (l .loop .«open») (l .loop .merged) (l .loop .column) w (c .opened2 .result) more-places
+          (rw same at (sym (test rule (nth ps (w .last)) (peaksAt ps (w .older)) (w .opens) bucket) ∙ c .before .before .before .before .before .if2 .left))
+          (rw same at (c .opened2 .ensures rule bucket))
+          (c .before .before .before .put-merged .last .0) (c .before .before .before .put-merged .ensures rule (nth ps (w .last)) (peaksAt ps (w .older)) (w .opens)),
       omega arith,
       omega arith,
       c .before .before .before .put-merged .kept .0 ∙ inv .3,
@@ -221,23 +225,24 @@ same-length-2 c = let l = c .before .before .before .before .before in
 returns-2 : tie.Need-returns-2 Inv-loop μ-loop
 returns-2 c = let l = c .before .before .before .before .before in
     let s = l .before .before .before .before .before .before .before .before .before .before in
-    let list = s .args .list .now in
     let rule = s .args .rule in
+    let params = s .args .params in
     let order = s .args .order .now in
     let i = l .loop .i in
     let number = l .loop .number in
     let inv = l .loop .inv in
     let start = s .args .column .now in
-    let w = inv .0 start refl in
     let out = s .args .merged .now in
-    let e : length order ≤ i = omega arith in (
-      end-count list rule order out start i number (l .loop .«open») (l .loop .merged) (l .loop .column) w e,
-      (
-        c .before .before .put-merged2 .ensures rule (peakAt list (w .last)) (peaksAt list (w .older)) (w .opens)
-            ∙ end-records list rule order out start i number (l .loop .«open») (l .loop .merged) (l .loop .column) w e,
-        end-marks list rule order out start i number (l .loop .«open») (l .loop .merged) (l .loop .column) w e,
-      ),
-    )
+    let e : length order ≤ i = omega arith in
+    λ ps g.
+    let w = inv .0 ps start g refl in
+    record {
+      counted = end-count rule params ps order out start i number (l .loop .«open») (l .loop .merged) (l .loop .column) w e;
+      records =
+          c .before .before .put-merged2 .ensures rule (nth ps (w .last)) (peaksAt ps (w .older)) (w .opens)
+          ∙ end-records rule params ps order out start i number (l .loop .«open») (l .loop .merged) (l .loop .column) w e;
+      marks = end-marks rule params ps order out start i number (l .loop .«open») (l .loop .merged) (l .loop .column) w e;
+    }
 
 pub put-groups-spec : {M : Type 1} → statement M
 put-groups-spec =
@@ -249,7 +254,7 @@ put-groups-spec =
     shared-slice-read-first
     cast-first
     peak-at-requires
-    key-of-requires
+    bucket-by-requires
     opened-requires
     mul-column
     slice-write-column
@@ -258,7 +263,7 @@ put-groups-spec =
     shared-slice-read-place
     cast-place
     peak-at-requires-2
-    key-of-requires-2
+    bucket-by-requires-2
     follows-requires
     joined-requires
     mul-column-2

@@ -3,19 +3,19 @@ use native.Mathlib.Omega.{arith}
 use borrow.Author.Needs.{needs}
 use lib.ListN.{length, drop, take}
 use lib.Seq.{length-take-le, drop-at}
-use Rattle.stitch.proofs.inner.pass_over.Statement.{statement}
-use Rattle.stitch.proofs.inner.pass_over.Tie as tie
+use Rattle.passes.proofs.inner.pass_over.Statement.{statement}
+use Rattle.passes.proofs.inner.pass_over.Tie as tie
 
 slice-relend-prefix-pass : tie.Need-slice-relend-prefix-pass
 slice-relend-prefix-pass c = search needs
 
 slice-aggregate-pass : tie.Need-slice-aggregate-pass
-slice-aggregate-pass c = let s = c .before .before .before .before .before in omega (arith, length-take-le (s .args .n) (s .args .order .now) (s .pre .1))
+slice-aggregate-pass c = let s = c .before .before .before .before .before .before in omega (arith, length-take-le (s .args .n) (s .args .order .now) (s .pre .1))
 
 pass-requires : tie.Need-pass-requires
-pass-requires c κs = let s = c .before .before .before .before .before .before .before in
+pass-requires c κs = let s = c .before .before .before .before .before .before .before .before .before in
     let e : length (take (s .args .n) (s .args .order .now)) ≡ s .args .n = length-take-le (s .args .n) (s .args .order .now) (s .pre .1) in
-    rw e (s .pre .0, s .pre .2, s .pre .3, s .pre .4)
+    rw e (s .pre .0, s .pre .2, s .pre .3, s .pre .4, s .pre .5)
 
 same-length : tie.Need-same-length
 same-length c = search needs
@@ -26,15 +26,16 @@ same-length-2 c = search needs
 same-length-3 : tie.Need-same-length-3
 same-length-3 c = search needs
 
+same-length-4 : tie.Need-same-length-4
+same-length-4 c = search needs
+
 returns : tie.Need-returns
-returns c = let s = c .before .before .before .before .before .before .before .before .before .before .before .before .before .before in
-    let g = c .before .before .before .before .before .before .pass in
+returns c = let s = c .before .before .before .before .before .before .before .before .before .before .before .before .before .before .before .before .before .before in
+    let g = c .before .before .before .before .before .before .before .before .pass in
     let n = s .args .n in
     let order = s .args .order .now in
-    let e : length (take n order) ≡ n = length-take-le n order (s .pre .1) in (
-      rw e at (g .ensures .0),
-      (rw e at (g .ensures .1 .0), (rw e at (g .ensures .1 .1), drop-at (g .last .1 .1 .0) (drop n order) n (g .kept .1 .1 .0 ∙ e))),
-    )
+    let e : length (take n order) ≡ n = length-take-le n order (s .pre .1) in
+    (rw e at (g .ensures), drop-at (g .last .1 .1 .1 .0) (drop n order) n (g .kept .1 .1 .1 .0 ∙ e))
 
 pub pass-over-spec : {M : Type 1} → statement M
 pass-over-spec =
@@ -46,4 +47,5 @@ pass-over-spec =
     same-length
     same-length-2
     same-length-3
+    same-length-4
     returns)

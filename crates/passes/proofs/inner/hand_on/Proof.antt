@@ -4,9 +4,9 @@ use Prim.Native.Nat.{ℕ, _≤_, _<_, _-_}
 use native.Mathlib.Omega.{arith}
 use borrow.Author.Needs.{needs}
 use lib.ListN.{length, getD, take, drop, length-set}
-use Rattle.stitch.proofs.Laws.{next-kept, next-put}
-use Rattle.stitch.proofs.inner.hand_on.Statement.{statement}
-use Rattle.stitch.proofs.inner.hand_on.Tie as tie
+use Rattle.passes.proofs.Laws.{next-kept, next-put}
+use Rattle.passes.proofs.inner.hand_on.Statement.{statement}
+use Rattle.passes.proofs.inner.hand_on.Tie as tie
 
 abbrev Inv-loop : tie.InvT-loop
 Inv-loop numbers owners₀ n i₀ owners i = (i ≤ n) × (length owners ≡ length owners₀) × (owners ≡ map (λ k. getD numbers k 0) (take i owners₀) ++ drop i owners₀)

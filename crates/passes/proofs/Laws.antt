@@ -1,0 +1,204 @@
+-- Records that are gathered, a list whose first places have been replaced one by one, and what the two passes leave.
+use mathlib.Core.Path.{_≡_, refl, sym, ap, subst, _∙_}
+use mathlib.Core.List.{List, [], _∷_, _++_, map, map-append, append-assoc, append-nil, List·Memᴰ, Memᴰ·append-left}
+use mathlib.Core.List.{List·Memᴰ·head as here, List·Memᴰ·tail as there}
+use Prim.Native.Nat.{ℕ, zero, suc, _+_, _-_, _*_, _<_, _≤_}
+use native.Mathlib.Nat.{mul-le-mul-left}
+use native.Mathlib.Omega.{arith}
+use native.Mathlib.Numerals.{add-one}
+use lib.ListN.{length, getD, take, drop, set, length-map, length-append, length-take, length-drop, take-append-drop, List·getD-append}
+use lib.Seq.{drop-cons, drop-drop, drop-at, take-at, take-suc, set-at, getD-at, length-take-le, getD-append-add, getD-take, getD-drop}
+use Rattle.record.specs.Record.{size, peakAt}
+use Rattle.record.proofs.RoundTrip.{own-words}
+use Rattle.record.specs.declared.ImPeak1D.{ImPeak1D}
+use Rattle.peaklist.specs.PeakList.{nth, peaksOf, listWords}
+use Rattle.peaklist.specs.PeakListLaws.{AllFit}
+use Rattle.peaklist.proofs.PeakListLaws.{peaks-length, nth-peaks, words-length, read-back}
+use Rattle.digits.specs.Sorted.{sortedBy, row, upTo}
+use Rattle.digits.proofs.SortedLaws.{at-index}
+use Rattle.digits.proofs.UpTo.{same-map}
+use Rattle.matching.specs.declared.StitchParams.{StitchParams}
+use Rattle.keys.specs.declared.KeyRule.{KeyRule}
+use Rattle.keys.specs.declared.KeyRule.the-variants.{First, Second}
+use Rattle.keys.specs.Keys.{widthOf, keyTable}
+use Rattle.keys.proofs.KeysLaws.{width-most, table-length, table-sorts}
+use Rattle.grouping.specs.Grouping.{groups, groupPeaks, passOrder, passGroups, numberIn}
+use Rattle.grouping.specs.Walk.{Gathered, Columned, Grouped, marked}
+use Rattle.grouping.proofs.Laws.{fill-behind}
+use Rattle.passes.specs.Stitching.{firstGroups, firstPeaks, secondGroups, ownerOf, ownersOf}
+use Rattle.passes.specs.Steps.{recordsAt, Within, Passed}
+use Rattle.passes.proofs.PassLaws.{order-length, order-lt, pass-column, pass-count, pass-number, first-length, column-at, handed}
+
+-- ---- records that are gathered
+
+module _ (list : List ℕ) where
+  one-length : (p : ℕ) → p * size + size ≤ length list → length (take size (drop (p * size) list)) ≡ size
+  one-length p h = length-take-le size (drop (p * size) list) (simp length-drop (omega arith))
+
+  pub records-length : (order : List ℕ) → Within list order → length (recordsAt list order) ≡ length order * size
+  unfolding recordsAt
+  records-length [] w = refl
+  records-length (p ∷ qs) w = let e = records-length qs (λ q m. w q (there m)) in simp length-append (omega (arith, one-length p (w p (here refl))))
+
+  pub records-one : (order : List ℕ) (p : ℕ) → recordsAt list (order ++ (p ∷ [])) ≡ recordsAt list order ++ take size (drop (p * size) list)
+  unfolding recordsAt
+  records-one [] p = append-nil (take size (drop (p * size) list))
+  records-one (q ∷ qs) p = rw (records-one qs p) (sym (append-assoc (take size (drop (q * size) list)) (recordsAt list qs) (take size (drop (p * size) list))))
+
+  -- word j of the i-th record is that of the record at its place
+  word-at : (order rest : List ℕ) → Within list order → (i j : ℕ) → i < length order → j < size
+      → getD (recordsAt list order ++ rest) (i * size + j) 0 ≡ getD list (getD order i 0 * size + j) 0
+  unfolding recordsAt
+  word-at [] rest w i j h k = absurd (omega arith)
+  word-at (p ∷ qs) rest w zero j h k =
+      let own = take size (drop (p * size) list) in
+      let l = one-length p (w p (here refl)) in
+      let e : zero * size + j ≡ j = omega arith in
+      rw (append-assoc own (recordsAt list qs) rest, e)
+      (List·getD-append own (recordsAt list qs ++ rest) 0 j (omega (arith, l)) ∙ getD-take size (drop (p * size) list) j 0 k ∙ getD-drop (p * size) list j 0)
+  word-at (p ∷ qs) rest w (suc i) j h k =
+      let own = take size (drop (p * size) list) in
+      let l = one-length p (w p (here refl)) in
+      let e : suc i * size + j ≡ length own + (i * size + j) = omega (arith, l) in
+      rw (append-assoc own (recordsAt list qs) rest, e)
+      (getD-append-add own (recordsAt list qs ++ rest) (i * size + j) 0 ∙ word-at qs rest (λ q m. w q (there m)) i j (omega arith) k)
+
+  pub gathered-at : (order rest : List ℕ) → Within list order → (i : ℕ) → i < length order → peakAt (recordsAt list order ++ rest) i ≡ peakAt list (getD order i 0)
+  gathered-at order rest w i h = own-words (recordsAt list order ++ rest) list (i * size) (getD order i 0 * size) (λ j k. word-at order rest w i j h k)
+
+-- one more record behind those of the first i places
+pub one-more : (list order d out : List ℕ) (i : ℕ) → i < length order → Within list order → out ≡ recordsAt list (take i order) ++ drop (i * size) d
+    → take (i * size) out ++ (take size (drop (getD order i 0 * size) list) ++ drop (i * size + size) out) ≡ recordsAt list (take (i + 1) order) ++ drop ((i + 1) * size) d
+one-more list order d out i h w e =
+    let front : Within list (take i order) = λ p m. w p (subst (List·Memᴰ p) (take-append-drop i order) (Memᴰ·append-left (drop i order) m)) in
+    let l : length (recordsAt list (take i order)) ≡ i * size = records-length list (take i order) front ∙ ap (λ (n : ℕ). n * size) (length-take-le i order (omega arith)) in
+    let k : (i + 1) * size ≡ i * size + size = omega arith in
+    rw (k, add-one, take-suc order i 0 h, records-one list (take i order) (getD order i 0))
+    (fill-behind (recordsAt list (take i order)) (take size (drop (getD order i 0 * size) list)) d out (i * size) size l e)
+
+-- ---- a list whose first places have been replaced
+
+module _ (f : ℕ → ℕ) (l : List ℕ) (i : ℕ) (h : i < length l) where
+  front-length : length (map f (take i l)) ≡ i
+  front-length = length-map (take i l) f ∙ length-take-le i l (omega arith)
+
+  -- the next is still what it was
+  pub next-kept : getD (map f (take i l) ++ drop i l) i 0 ≡ getD l i 0
+  next-kept = rw (drop-cons l i 0 h) (getD-at (map f (take i l)) (getD l i 0) (drop (suc i) l) 0 i front-length)
+
+  pub next-put : (v : ℕ) → v ≡ f (getD l i 0) → set (map f (take i l) ++ drop i l) i v ≡ map f (take (i + 1) l) ++ drop (i + 1) l
+  next-put v e =
+      let front : map f (take (suc i) l) ≡ map f (take i l) ++ (v ∷ []) = rw e (ap (map f) (take-suc l i 0 h) ∙ map-append f (take i l) (getD l i 0 ∷ [])) in
+      rw (add-one, front, drop-cons l i 0 h, append-assoc) (set-at (map f (take i l)) (getD l i 0) (drop (suc i) l) v i front-length)
+
+-- one more word copied from one list to the front of another
+pub next-copied : (from d : List ℕ) (i : ℕ) → i < length from → i < length d → set (take i from ++ drop i d) i (getD from i 0) ≡ take (i + 1) from ++ drop (i + 1) d
+next-copied from d i h k =
+    rw (add-one, take-suc from i 0 h, drop-cons d i 0 k, append-assoc) (set-at (take i from) (getD d i 0) (drop (suc i) d) (getD from i 0) i (length-take-le i from (omega arith)))
+
+-- what is the same from m on is the same from any later place on
+pub later : (x y : List ℕ) (m n : ℕ) → m ≤ n → drop m x ≡ drop m y → drop n x ≡ drop n y
+later x y m n h e =
+    let k : m + (n - m) ≡ n = omega arith in
+    subst (λ (j : ℕ). drop j x ≡ drop j y) k (sym (drop-drop (n - m) m x) ∙ ap (drop (n - m)) e ∙ drop-drop (n - m) m y)
+
+-- ---- what the steps of a pass leave
+
+-- the keys and the order of the first n records of a list
+module _ (list : List ℕ) (n : ℕ) (rule : KeyRule) (params : StitchParams) where
+  pub ordered : (keys rest order : List ℕ) (w : ℕ) → keys ≡ keyTable rule (peaksOf list n) ++ rest → w ≡ widthOf rule → order ≡ sortedBy (row keys w) (upTo n) → order ≡ passOrder rule (peaksOf list n)
+  ordered keys rest order w e f g =
+      let l = peaks-length list n in
+      g ∙ ap (λ (m : ℕ). sortedBy (row keys w) (upTo m)) (sym l) ∙ rw (e, f) (table-sorts rule (peaksOf list n) rest)
+
+  module _ (order : List ℕ) (e : order ≡ passOrder rule (peaksOf list n)) (room : n * size ≤ length list) where
+    pub order-size : length order ≡ n
+    order-size = ap length e ∙ order-length rule params (peaksOf list n) ∙ peaks-length list n
+
+    place-lt : (p : ℕ) → List·Memᴰ p order → p < n
+    place-lt p m = omega (arith, order-lt rule params (peaksOf list n) p (subst (List·Memᴰ p) e m), peaks-length list n)
+
+    pub in-list : Within list order
+    in-list p m = omega (arith, place-lt p m)
+
+    pub in-column : (column : List ℕ) → n ≤ length column → Columned column order
+    in-column column h p m = omega (arith, place-lt p m)
+
+    pub gathered : (sorted rest : List ℕ) → sorted ≡ recordsAt list order ++ rest → Gathered (peaksOf list n) sorted order
+    gathered sorted rest f i h =
+        ap (λ (l : List ℕ). peakAt l i) f ∙ gathered-at list order rest in-list i h
+        ∙ sym (nth-peaks list n (getD order i 0) (place-lt (getD order i 0) (at-index order i h)))
+
+    -- of the list of keys no more is used than a record a peak has
+    keys-rest : (keys₀ keys sorted : List ℕ) → keys ≡ keyTable rule (peaksOf list n) ++ drop (n * widthOf rule) keys₀
+        → sorted ≡ recordsAt list order ++ drop (length order * size) keys → drop (n * size) sorted ≡ drop (n * size) keys₀
+    keys-rest keys₀ keys sorted f g =
+        let a : length (recordsAt list order) ≡ n * size = records-length list order in-list ∙ ap (λ (m : ℕ). m * size) order-size in
+        let b : length (keyTable rule (peaksOf list n)) ≡ n * widthOf rule = table-length rule (peaksOf list n) ∙ ap (λ (m : ℕ). m * widthOf rule) (peaks-length list n) in
+        let few : n * widthOf rule ≤ n * size = mul-le-mul-left n (omega (arith, width-most rule)) in
+        ap (drop (n * size)) g ∙ drop-at (recordsAt list order) (drop (length order * size) keys) (n * size) a
+        ∙ ap (λ (m : ℕ). drop (m * size) keys) order-size
+        ∙ later keys keys₀ (n * widthOf rule) (n * size) few (ap (drop (n * widthOf rule)) f ∙ drop-at (keyTable rule (peaksOf list n)) (drop (n * widthOf rule) keys₀) (n * widthOf rule) b)
+
+    pub finished : (out₀ column₀ keys₀ column keys sorted : List ℕ) (count : ℕ) (out made : List ℕ)
+        → Grouped rule params (peaksOf list n) order out₀ column count out made → n ≤ length column → drop n column ≡ drop n column₀
+        → keys ≡ keyTable rule (peaksOf list n) ++ drop (n * widthOf rule) keys₀ → sorted ≡ recordsAt list order ++ drop (length order * size) keys
+        → Passed rule params (peaksOf list n) column₀ keys₀ out₀ count made sorted out
+    unfolding passGroups
+    finished out₀ column₀ keys₀ column keys sorted count out made g h d f k =
+        let ps = peaksOf list n in
+        let l = peaks-length list n in
+        record {
+          counted = g .counted ∙ ap (λ (o : List ℕ). length (groups rule params ps o)) e;
+          records = g .records ∙ ap (λ (o : List ℕ). listWords (groupPeaks ps (groups rule params ps o)) ++ drop (count * size) out₀) e;
+          numbers =
+              g .marks ∙ ap (λ (o : List ℕ). marked 0 (groups rule params ps o) column) e
+              ∙ pass-column rule params ps column (omega (arith, l)) column₀ (rw l d);
+          rest = rw l (keys-rest keys₀ keys sorted f k);
+        }
+
+-- ---- what the two passes leave
+
+-- the first pass leaves m records at the front of `made`, and the numbers of its groups at the front of `firsts`
+module _ (params : StitchParams) (ps : List ImPeak1D) (m : ℕ) (counted : m ≡ length (firstGroups params ps)) where
+  pub fewer : m ≤ length ps
+  fewer = omega (arith, counted, pass-count (First params) params ps)
+
+  pub as-many : length (firstPeaks params ps) ≡ m
+  as-many = first-length params ps ∙ sym counted
+
+  words : length (listWords (firstPeaks params ps)) ≡ m * size
+  words = words-length (firstPeaks params ps) ∙ ap (λ (k : ℕ). k * size) as-many
+
+  module _ (made rest : List ℕ) (e : made ≡ listWords (firstPeaks params ps) ++ rest) where
+    made-front : take (m * size) made ≡ listWords (firstPeaks params ps)
+    made-front = ap (take (m * size)) e ∙ take-at (listWords (firstPeaks params ps)) rest (m * size) words
+
+    pub made-rest : drop (m * size) made ≡ rest
+    made-rest = ap (drop (m * size)) e ∙ drop-at (listWords (firstPeaks params ps)) rest (m * size) words
+
+    -- they are read as they were written
+    pub second-read : AllFit (firstPeaks params ps) → peaksOf (take (m * size) made) m ≡ firstPeaks params ps
+    second-read fit =
+        ap (λ (l : List ℕ). peaksOf l m) (made-front ∙ sym (append-nil (listWords (firstPeaks params ps))))
+        ∙ ap (peaksOf (listWords (firstPeaks params ps) ++ [])) (sym as-many)
+        ∙ read-back (firstPeaks params ps) [] fit
+
+  module _ (firsts start : List ℕ) (e : firsts ≡ map (numberIn (firstGroups params ps)) (upTo (length ps)) ++ start) where
+    pub first-number : (k : ℕ) → k < length ps → getD firsts k 0 < m
+    first-number k h =
+        let f = ap (λ (l : List ℕ). getD l k 0) e ∙ column-at (numberIn (firstGroups params ps)) (length ps) start k h in
+        omega (arith, f, counted, pass-number (First params) params ps k h)
+
+    -- the second pass leaves the numbers of its groups at the front of `seconds`
+    pub owned : (seconds back : List ℕ) → seconds ≡ map (numberIn (secondGroups params ps)) (upTo m) ++ back
+        → map (λ k. getD seconds k 0) (take (length ps) firsts) ++ drop (length ps) firsts ≡ ownersOf params ps ++ start
+    unfolding ownerOf
+    owned seconds back d =
+        let first = numberIn (firstGroups params ps) in
+        ap (λ (l : List ℕ). map (λ k. getD seconds k 0) (take (length ps) l) ++ drop (length ps) l) e
+        ∙ handed first (length ps) start seconds
+        ∙ ap (λ (l : List ℕ). l ++ start)
+        (same-map (λ k. getD seconds (first k) 0) (λ k. numberIn (secondGroups params ps) (first k)) (length ps)
+        (λ k h. ap (λ (l : List ℕ). getD l (first k) 0) d
+        ∙ column-at (numberIn (secondGroups params ps)) m back (first k) (omega (arith, counted, pass-number (First params) params ps k h))))

@@ -1,0 +1,109 @@
+use mathlib.Core.Path.{_≡_, sym, ap, _∙_}
+use mathlib.Core.List.{List, _++_}
+use Prim.Native.Nat.{ℕ, _≤_, _*_}
+use native.Mathlib.Nat.{mul-le-mul-left}
+use native.Mathlib.Omega.{arith}
+use borrow.Author.Needs.{needs}
+use lib.ListN.{length, drop}
+use Rattle.record.specs.Record.{size}
+use Rattle.keys.specs.Keys.{widthOf}
+use Rattle.keys.proofs.KeysLaws.{width-most}
+use Rattle.peaklist.specs.PeakList.{peaksOf}
+use Rattle.grouping.specs.Grouping.{passOrder}
+use Rattle.passes.proofs.Laws.{ordered, order-size, in-list, in-column, gathered, finished}
+use Rattle.passes.proofs.inner.pass.Statement.{statement}
+use Rattle.passes.proofs.inner.pass.Tie as tie
+
+-- a key has no more words than a record
+few : (n w l : ℕ) → w ≤ 8 → n * size ≤ l → n * w ≤ l
+few n w l h k = let e : n * w ≤ n * size = mul-le-mul-left n (omega arith) in omega arith
+
+put-keys-requires : tie.Need-put-keys-requires
+put-keys-requires c κs = let s = c .before .before .before .before .before .before in
+    (s .pre .0, few (length (s .args .order .now)) (widthOf (s .args .rule)) (length (s .args .keys .now)) (width-most (s .args .rule)) (s .pre .2))
+
+width-of-requires : tie.Need-width-of-requires
+width-of-requires c κs = search needs
+
+order-rows-requires : tie.Need-order-rows-requires
+order-rows-requires c κs = let s = c .before .before .before .before .before .before .before .before .before .before .before .before .before in
+    let put = c .before .before .before .before .before .before .put-keys in
+    let w = c .before .before .width-of in
+    let n = length (s .args .order .now) in
+    let e : n * w .result ≤ length (put .last .1 .1 .1 .0) = rw (w .ensures, put .kept .1 .1 .1 .0) (few n (widthOf (s .args .rule)) (length (s .args .keys .now)) (width-most (s .args .rule)) (s .pre .2)) in
+    (e, s .pre .4, s .pre .1)
+
+module _ (c : tie.After-order-rows) where
+  sorted-order : c .order-rows .last .1 .1 .0 ≡ passOrder (c .before .before .before .before .before .before .before .before .before .before .before .before .before .before .args .rule) (peaksOf (c .before .before .before .before .before .before .before .before .before .before .before .before .before .before .args .list .now) (length (c .before .before .before .before .before .before .before .before .before .before .before .before .before .before .args .order .now)))
+  sorted-order = let s = c .before .before .before .before .before .before .before .before .before .before .before .before .before .before in
+      let put = c .before .before .before .before .before .before .before .put-keys in
+      ordered (s .args .list .now) (length (s .args .order .now)) (s .args .rule) (s .args .params) (put .last .1 .1 .1 .0) (drop (length (s .args .order .now) * widthOf (s .args .rule)) (s .args .keys .now)) (c .order-rows .last .1 .1 .0) (c .before .before .before .width-of .result) (put .ensures) (c .before .before .before .width-of .ensures) (c .order-rows .ensures .0)
+
+gather-requires : tie.Need-gather-requires
+gather-requires c κs = let s = c .before .before .before .before .before .before .before .before .before .before .before .before .before .before .before .before .before .before .before .before in
+    let at = c .before .before .before .before .before .before in
+    let put = c .before .before .before .before .before .before .before .before .before .before .before .before .before .put-keys in
+    let e = sorted-order at in
+    let order = at .order-rows .last .1 .1 .0 in
+    let n = length (s .args .order .now) in
+    (in-list (s .args .list .now) n (s .args .rule) (s .args .params) order e (s .pre .0), omega (arith, order-size (s .args .list .now) n (s .args .rule) (s .args .params) order e (s .pre .0), put .kept .1 .1 .1 .0, s .pre .2))
+
+put-groups-requires : tie.Need-put-groups-requires
+put-groups-requires c κs = let s = c .before .before .before .before .before .before .before .before .before .before .before .before .before .before .before .before .before .before .before .before .before .before .before .before .before .before .before in
+    let at = c .before .before .before .before .before .before .before .before .before .before .before .before .before in
+    let put = c .before .before .before .before .before .before .before .before .before .before .before .before .before .before .before .before .before .before .before .before .put-keys in
+    let e = sorted-order at in
+    let order = at .order-rows .last .1 .1 .0 in
+    let column = at .order-rows .last .1 .1 .1 .0 in
+    let n = length (s .args .order .now) in
+    let l = order-size (s .args .list .now) n (s .args .rule) (s .args .params) order e (s .pre .0) in (
+      omega (arith, l, c .before .before .before .before .before .before .gather .kept .1 .1 .0, put .kept .1 .1 .1 .0, s .pre .2),
+      in-column (s .args .list .now) n (s .args .rule) (s .args .params) order e (s .pre .0) column (omega (arith, at .order-rows .kept .1 .1 .1 .0, s .pre .1)),
+      omega (arith, l, s .pre .3),
+      omega (arith, l, s .pre .4),
+    )
+
+same-length : tie.Need-same-length
+same-length c = search needs
+
+same-length-2 : tie.Need-same-length-2
+same-length-2 c = search needs
+
+same-length-3 : tie.Need-same-length-3
+same-length-3 c = search needs
+
+same-length-4 : tie.Need-same-length-4
+same-length-4 c = search needs
+
+returns : tie.Need-returns
+returns c = let s = c .before .before .before .before .before .before .before .before .before .before .before .before .before .before .before .before .before .before .before .before .before .before .before .before .before .before .before .before .before .before .before .before in
+    let at = c .before .before .before .before .before .before .before .before .before .before .before .before .before .before .before .before .before .before in
+    let put = c .before .before .before .before .before .before .before .before .before .before .before .before .before .before .before .before .before .before .before .before .before .before .before .before .before .put-keys in
+    let gather = c .before .before .before .before .before .before .before .before .before .before .before .gather in
+    let put-groups = c .before .before .before .before .put-groups in
+    let e = sorted-order at in
+    let order = at .order-rows .last .1 .1 .0 in
+    let column = at .order-rows .last .1 .1 .1 .0 in
+    let list = s .args .list .now in
+    let n = length (s .args .order .now) in
+    let rule = s .args .rule in
+    let params = s .args .params in
+    finished list n rule params order e (s .pre .0) (s .args .out .now) (s .args .column .now) (s .args .keys .now) column (put .last .1 .1 .1 .0) (gather .last .1 .1 .0) (put-groups .result) (put-groups .last .1 .1 .1 .1 .0) (put-groups .last .1 .1 .1 .1 .1 .0)
+    (put-groups .ensures (peaksOf list n) (gathered list n rule params order e (s .pre .0) (gather .last .1 .1 .0) (drop (length order * size) (put .last .1 .1 .1 .0)) (gather .ensures)))
+    (omega (arith, at .order-rows .kept .1 .1 .1 .0, s .pre .1))
+    (at .order-rows .ensures .1) (put .ensures) (gather .ensures)
+
+pub pass-spec : {M : Type 1} → statement M
+pass-spec =
+    tie.close
+    (tie.spec
+    put-keys-requires
+    width-of-requires
+    order-rows-requires
+    gather-requires
+    put-groups-requires
+    same-length
+    same-length-2
+    same-length-3
+    same-length-4
+    returns)
