@@ -1,0 +1,2 @@
+// Whether the peaks of a list have different identities.
+pub mod inner;

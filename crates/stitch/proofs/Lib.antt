@@ -1,0 +1,2 @@
+pub mod StitchNumberLaws
+pub mod Laws
