@@ -1,4 +1,6 @@
-// Grid detection as a C function on numbers and byte slices.
+// Grid detection as a C function on numbers and byte slices; stitching stands in a module of its own.
+pub mod stitching;
+
 use grid::numbers::Seen;
 use params::FrameBounds;
 use params::ImDetectParams;
