@@ -3,27 +3,21 @@ use borrow.Author.Needs.{needs}
 use Rattle.distinct.proofs.inner.all_distinct.Statement.{statement}
 use Rattle.distinct.proofs.inner.all_distinct.Tie as tie
 
--- src/inner.rt:87:8
 rise-requires : tie.Need-rise-requires
 rise-requires c κs = search needs
 
--- src/inner.rt:88:9
 returns : tie.Need-returns
 returns c = sym (c .before .rise .ensures (c .if1 .taken))
 
--- src/inner.rt:91:9
 in-1024-requires : tie.Need-in-1024-requires
 in-1024-requires c κs = search needs
 
--- src/inner.rt:91:9
 returns-2 : tie.Need-returns-2
 returns-2 c = search needs
 
--- src/inner.rt:93:5
 in-65536-requires : tie.Need-in-65536-requires
 in-65536-requires c κs = search needs
 
--- src/inner.rt:83:1
 returns-3 : tie.Need-returns-3
 returns-3 c = search needs
 
