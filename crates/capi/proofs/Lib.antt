@@ -1,2 +1,3 @@
 -- The laws that the proofs of `capi` use.
 pub mod Laws
+pub mod StitchingLaws

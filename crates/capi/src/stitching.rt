@@ -43,7 +43,15 @@ pub extern "C" fn rubzolena_stitch_im_peaks(
     };
     let told = (allow_cross_groups <= 1) & (require_mutual_apex_inside <= 1);
     let answer = stitch::inner::stitch_told(
-        list, params, told, out, owners, order, groups, keys, merged,
+        list,
+        params,
+        told,
+        out,
+        owners,
+        order,
+        groups,
+        keys,
+        merged,
     );
     match answer {
         StitchAnswer::Stitched(n) => (n as u64) * 64,
