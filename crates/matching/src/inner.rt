@@ -74,8 +74,13 @@ pub fn jaccard(lo_a: u32, hi_a: u32, lo_b: u32, hi_b: u32) -> f32
 fn enough_common(least: u32, share: f32, lo_a: u32, hi_a: u32, lo_b: u32, hi_b: u32) -> bool
     ensures { λ r. ⌜ r ≡ enoughCommon least share «lo_a» «hi_a» «lo_b» «hi_b» ⌝ }
 {
-    let too_small = (0.0 < share) & (jaccard(lo_a, hi_a, lo_b, hi_b) < share);
-    (least <= overlap(lo_a, hi_a, lo_b, hi_b)) & !too_small
+    if least <= overlap(lo_a, hi_a, lo_b, hi_b) {
+        if 0.0 < share {
+            return !(jaccard(lo_a, hi_a, lo_b, hi_b) < share);
+        }
+        return true;
+    }
+    false
 }
 
 // A window group: whether it is there, 1 or 0, and its number, 0 for a missing one.
@@ -160,21 +165,26 @@ fn inside(lo: u32, hi: u32, scan: u32) -> bool
 fn apexes_inside(p: StitchParams, a: ImPeak1D, b: ImPeak1D) -> bool
     ensures { λ r. ⌜ r ≡ apexesInside p a b ⌝ }
 {
-    let lo = numeric::inner::higher(a.left_abs, b.left_abs);
-    let hi = numeric::inner::lower(a.right_abs, b.right_abs);
-    !p.require_mutual_apex_inside
-        | ((lo <= hi) & inside(lo, hi, a.scan_abs) & inside(lo, hi, b.scan_abs))
+    if p.require_mutual_apex_inside {
+        let lo = numeric::inner::higher(a.left_abs, b.left_abs);
+        let hi = numeric::inner::lower(a.right_abs, b.right_abs);
+        return (lo <= hi) & inside(lo, hi, a.scan_abs) & inside(lo, hi, b.scan_abs);
+    }
+    true
 }
 
 // Whether two peaks that follow each other may stand in one group.
 pub fn compatible_fast(a: ImPeak1D, b: ImPeak1D, p: StitchParams) -> bool
     ensures { λ r. ⌜ r ≡ compatible p a b ⌝ }
 {
-    same_group(p, a, b)
-        & rows_near(p, a, b)
-        & frames_overlap(p, a, b)
-        & scans_overlap(p, a, b)
-        & apexes_inside(p, a, b)
+    let near = same_group(p, a, b) & rows_near(p, a, b);
+    if near {
+        if frames_overlap(p, a, b) {
+            return scans_overlap(p, a, b) & apexes_inside(p, a, b);
+        }
+        return false;
+    }
+    false
 }
 
 // The lowest and the highest row and absolute scan among the members of a group.

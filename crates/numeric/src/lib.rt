@@ -56,11 +56,15 @@ pub fn cast_sat(x: f32) -> u32
     0
 }
 
-// Rust's `n as f32`.
+// Rust's `n as f32`. Whole numbers to 2^24 are floats.
 pub fn of_u32(n: u32) -> f32
     ensures { λ r. ⌜ r ≡ ofInt binary32 (pos n) ⌝ }
 {
-    std::num::nearest_u32_to_f32(n)
+    if n <= 16777216 {
+        inner::of_index(n as usize)
+    } else {
+        std::num::nearest_u32_to_f32(n)
+    }
 }
 
 // The bit pattern of a float, with one pattern for every NaN.

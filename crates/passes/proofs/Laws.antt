@@ -1,13 +1,17 @@
 -- Records that are gathered, a list whose first places have been replaced one by one, and what the two passes leave.
 use mathlib.Core.Path.{_≡_, refl, sym, ap, subst, _∙_}
+use mathlib.Core.Bool.{Bool, true, false, _&&_}
 use mathlib.Core.List.{List, [], _∷_, _++_, map, map-append, append-assoc, append-nil, List·Memᴰ, Memᴰ·append-left}
 use mathlib.Core.List.{List·Memᴰ·head as here, List·Memᴰ·tail as there}
 use Prim.Native.Nat.{ℕ, zero, suc, _+_, _-_, _*_, _<_, _≤_}
 use native.Mathlib.Nat.{mul-le-mul-left}
 use native.Mathlib.Omega.{arith}
 use native.Mathlib.Numerals.{add-one}
+use borrow.Author.Tests.{eqb-true, eqb-false}
+use lib.Dec.{eqb}
 use lib.ListN.{length, getD, take, drop, set, length-map, length-append, length-take, length-drop, take-append-drop, List·getD-append}
-use lib.Seq.{drop-cons, drop-drop, drop-at, take-at, take-suc, set-at, getD-at, length-take-le, getD-append-add, getD-take, getD-drop}
+use lib.Seq.{drop-cons, drop-drop, drop-at, take-at, take-suc, set-at, getD-at, length-take-le, getD-append-add, getD-take, getD-drop, ext-getD}
+use Rattle.refusal.proofs.Bools.{both}
 use Rattle.record.specs.Record.{size, peakAt}
 use Rattle.record.proofs.RoundTrip.{own-words}
 use Rattle.record.specs.declared.ImPeak1D.{ImPeak1D}
@@ -16,7 +20,7 @@ use Rattle.peaklist.specs.PeakListLaws.{AllFit}
 use Rattle.peaklist.proofs.PeakListLaws.{peaks-length, nth-peaks, words-length, read-back}
 use Rattle.digits.specs.Sorted.{sortedBy, row, upTo}
 use Rattle.digits.proofs.SortedLaws.{at-index}
-use Rattle.digits.proofs.UpTo.{same-map}
+use Rattle.digits.proofs.UpTo.{same-map, upto-get, upto-length}
 use Rattle.matching.specs.declared.StitchParams.{StitchParams}
 use Rattle.keys.specs.declared.KeyRule.{KeyRule}
 use Rattle.keys.specs.declared.KeyRule.the-variants.{First, Second}
@@ -76,6 +80,22 @@ one-more list order d out i h w e =
     rw (k, add-one, take-suc order i 0 h, records-one list (take i order) (getD order i 0))
     (fill-behind (recordsAt list (take i order)) (take size (drop (getD order i 0 * size) list)) d out (i * size) size l e)
 
+-- ---- places that stand in their own order
+
+pub one-stands : (order : List ℕ) (i : ℕ) (all : Bool) → (all ≡ true → (k : ℕ) → k < i → getD order k 0 ≡ k)
+    → (all && eqb (getD order i 0) i) ≡ true → (k : ℕ) → k < i + 1 → getD order k 0 ≡ k
+one-stands order i all h e k l = go (eqb k i) refl
+  where
+    parts : (all ≡ true) × (eqb (getD order i 0) i ≡ true)
+    parts = both all e
+
+    go : (b : Bool) → eqb k i ≡ b → getD order k 0 ≡ k
+    go true d = let same : k ≡ i = eqb-true k i d in rw same (eqb-true (getD order i 0) i (parts .1))
+    go false d = let apart = eqb-false k i d in h (parts .0) k (omega arith)
+
+pub all-stand : (order : List ℕ) → ((k : ℕ) → k < length order → getD order k 0 ≡ k) → order ≡ upTo (length order)
+all-stand order h = ext-getD 0 order (upTo (length order)) (sym (upto-length (length order))) (λ k l. h k l ∙ sym (upto-get (length order) k l))
+
 -- ---- a list whose first places have been replaced
 
 module _ (f : ℕ → ℕ) (l : List ℕ) (i : ℕ) (h : i < length l) where
@@ -129,23 +149,33 @@ module _ (list : List ℕ) (n : ℕ) (rule : KeyRule) (params : StitchParams) wh
         ap (λ (l : List ℕ). peakAt l i) f ∙ gathered-at list order rest in-list i h
         ∙ sym (nth-peaks list n (getD order i 0) (place-lt (getD order i 0) (at-index order i h)))
 
-    -- of the list of keys no more is used than a record a peak has
-    keys-rest : (keys₀ keys sorted : List ℕ) → keys ≡ keyTable rule (peaksOf list n) ++ drop (n * widthOf rule) keys₀
+    -- places that stand in their own order are those of the records as they are
+    pub standing : order ≡ upTo (length order) → Gathered (peaksOf list n) list order
+    standing f i h =
+        let own : getD order i 0 ≡ i = ap (λ (l : List ℕ). getD l i 0) f ∙ upto-get (length order) i h in
+        rw own (sym (nth-peaks list n i (omega (arith, order-size))))
+
+    -- of the list of keys no more is used than a record a peak has, whether records were gathered there or not
+    pub keys-only : (keys₀ keys : List ℕ) → keys ≡ keyTable rule (peaksOf list n) ++ drop (n * widthOf rule) keys₀ → drop (n * size) keys ≡ drop (n * size) keys₀
+    keys-only keys₀ keys f =
+        let b : length (keyTable rule (peaksOf list n)) ≡ n * widthOf rule = table-length rule (peaksOf list n) ∙ ap (λ (m : ℕ). m * widthOf rule) (peaks-length list n) in
+        let few : n * widthOf rule ≤ n * size = mul-le-mul-left n (omega (arith, width-most rule)) in
+        later keys keys₀ (n * widthOf rule) (n * size) few (ap (drop (n * widthOf rule)) f ∙ drop-at (keyTable rule (peaksOf list n)) (drop (n * widthOf rule) keys₀) (n * widthOf rule) b)
+
+    pub keys-rest : (keys₀ keys sorted : List ℕ) → keys ≡ keyTable rule (peaksOf list n) ++ drop (n * widthOf rule) keys₀
         → sorted ≡ recordsAt list order ++ drop (length order * size) keys → drop (n * size) sorted ≡ drop (n * size) keys₀
     keys-rest keys₀ keys sorted f g =
         let a : length (recordsAt list order) ≡ n * size = records-length list order in-list ∙ ap (λ (m : ℕ). m * size) order-size in
-        let b : length (keyTable rule (peaksOf list n)) ≡ n * widthOf rule = table-length rule (peaksOf list n) ∙ ap (λ (m : ℕ). m * widthOf rule) (peaks-length list n) in
-        let few : n * widthOf rule ≤ n * size = mul-le-mul-left n (omega (arith, width-most rule)) in
         ap (drop (n * size)) g ∙ drop-at (recordsAt list order) (drop (length order * size) keys) (n * size) a
         ∙ ap (λ (m : ℕ). drop (m * size) keys) order-size
-        ∙ later keys keys₀ (n * widthOf rule) (n * size) few (ap (drop (n * widthOf rule)) f ∙ drop-at (keyTable rule (peaksOf list n)) (drop (n * widthOf rule) keys₀) (n * widthOf rule) b)
+        ∙ keys-only keys₀ keys f
 
-    pub finished : (out₀ column₀ keys₀ column keys sorted : List ℕ) (count : ℕ) (out made : List ℕ)
+    pub finished : (out₀ column₀ keys₀ column sorted : List ℕ) (count : ℕ) (out made : List ℕ)
         → Grouped rule params (peaksOf list n) order out₀ column count out made → n ≤ length column → drop n column ≡ drop n column₀
-        → keys ≡ keyTable rule (peaksOf list n) ++ drop (n * widthOf rule) keys₀ → sorted ≡ recordsAt list order ++ drop (length order * size) keys
+        → drop (n * size) sorted ≡ drop (n * size) keys₀
         → Passed rule params (peaksOf list n) column₀ keys₀ out₀ count made sorted out
     unfolding passGroups
-    finished out₀ column₀ keys₀ column keys sorted count out made g h d f k =
+    finished out₀ column₀ keys₀ column sorted count out made g h d f =
         let ps = peaksOf list n in
         let l = peaks-length list n in
         record {
@@ -154,7 +184,7 @@ module _ (list : List ℕ) (n : ℕ) (rule : KeyRule) (params : StitchParams) wh
           numbers =
               g .marks ∙ ap (λ (o : List ℕ). marked 0 (groups rule params ps o) column) e
               ∙ pass-column rule params ps column (omega (arith, l)) column₀ (rw l d);
-          rest = rw l (keys-rest keys₀ keys sorted f k);
+          rest = rw l f;
         }
 
 -- ---- what the two passes leave

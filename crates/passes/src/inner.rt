@@ -7,7 +7,9 @@ ghost use mathlib.Core.List.{_++_, map, List·Memᴰ};
 ghost use Prim.Native.Nat.{ℕ, _≤_, _<_, _+_, _*_};
 ghost use lib.ListN.{length, getD, take, drop};
 ghost use Rattle.record.specs.Record.{size};
+ghost use mathlib.Core.Bool.{true};
 ghost use Rattle.peaklist.specs.PeakList.{peaksOf};
+ghost use Rattle.digits.specs.Sorted.{upTo};
 ghost use Rattle.passes.specs.Steps.{recordsAt, Passed, Within, Stitched};
 
 // Copies the first record of one list to the front of another.
@@ -45,9 +47,23 @@ fn gather(list: &[u32], order: &[u32], sorted: &mut [u32])
     }
 }
 
+// Whether places stand in their own order: 0, 1, 2 and so on.
+fn stands(order: &[u32]) -> bool
+    requires { ⌜ length (now order) ≤ 4294967296 ⌝ }
+    ensures { λ r. ⌜ (r ≡ true → now (order .entry) ≡ upTo (length (now (order .entry)))) ⌝ }
+{
+    let mut all = true;
+    let mut i = 0usize;
+    while i < order.len() {
+        all = all & (order[i] == i as u32);
+        i += 1;
+    }
+    all
+}
+
 // One pass over as many records of `list` as `order` has places: the merged peaks to the front of `out`, and for each place the
-// number of its group to the front of `column`. `keys` holds the keys first, and then the records in their order. Returns how
-// many groups there are.
+// number of its group to the front of `column`. `keys` holds the keys first, and then the records in their order, unless they stand
+// so in `list`. Returns how many groups there are.
 fn pass(
     list: &[u32],
     rule: KeyRule,
@@ -64,6 +80,9 @@ fn pass(
     let n = order.len();
     keys::inner::put_keys(list, n, rule, keys);
     ordering::inner::order_rows(keys, keys::inner::width_of(rule), order, column);
+    if stands(order) {
+        return grouping::inner::put_groups(list, order, rule, params, out, column);
+    }
     gather(list, order, keys);
     grouping::inner::put_groups(keys, order, rule, params, out, column)
 }

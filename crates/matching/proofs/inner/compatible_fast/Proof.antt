@@ -1,5 +1,5 @@
-use Rattle.matching.specs.Matching.{compatible}
 use borrow.Author.Needs.{needs}
+use Rattle.matching.specs.Matching.{compatible}
 use Rattle.matching.proofs.inner.compatible_fast.Statement.{statement}
 use Rattle.matching.proofs.inner.compatible_fast.Tie as tie
 
@@ -21,9 +21,19 @@ apexes-inside-requires c κs = search needs
 returns : tie.Need-returns
 unfolding compatible
 returns c = let scans = c .before in
-    let frames = scans .before in
-    let rows = frames .before in
-    rw (rows .before .same-group .ensures, rows .rows-near .ensures, frames .frames-overlap .ensures, scans .scans-overlap .ensures, c .apexes-inside .ensures)
+    let frames = scans .before .before in
+    let rows = frames .before .before in
+    rw (← rows .before .same-group .ensures, ← rows .rows-near .ensures, ← frames .frames-overlap .ensures, ← scans .scans-overlap .ensures, ← c .apexes-inside .ensures, frames .before .if1 .taken, scans .before .if2 .taken)
+
+returns-2 : tie.Need-returns-2
+unfolding compatible
+returns-2 c = let frames = c .before in
+    let rows = frames .before .before in
+    rw (← rows .before .same-group .ensures, ← rows .rows-near .ensures, ← frames .frames-overlap .ensures, frames .before .if1 .taken, c .if2 .left)
+
+returns-3 : tie.Need-returns-3
+unfolding compatible
+returns-3 c = let rows = c .before in rw (← rows .before .same-group .ensures, ← rows .rows-near .ensures, c .if1 .left)
 
 pub compatible-fast-spec : {M : Type 1} → statement M
 compatible-fast-spec =
@@ -34,4 +44,6 @@ compatible-fast-spec =
     frames-overlap-requires
     scans-overlap-requires
     apexes-inside-requires
-    returns)
+    returns
+    returns-2
+    returns-3)

@@ -1,5 +1,4 @@
 use mathlib.Core.Path.{_≡_, sym, ap, _∙_}
-use mathlib.Core.List.{List, _++_}
 use Prim.Native.Nat.{ℕ, _≤_, _*_}
 use native.Mathlib.Nat.{mul-le-mul-left}
 use native.Mathlib.Omega.{arith}
@@ -10,7 +9,7 @@ use Rattle.keys.specs.Keys.{widthOf}
 use Rattle.keys.proofs.KeysLaws.{width-most}
 use Rattle.peaklist.specs.PeakList.{peaksOf}
 use Rattle.grouping.specs.Grouping.{passOrder}
-use Rattle.passes.proofs.Laws.{ordered, order-size, in-list, in-column, gathered, finished}
+use Rattle.passes.proofs.Laws.{ordered, order-size, in-list, in-column, gathered, standing, keys-only, keys-rest, finished}
 use Rattle.passes.proofs.inner.pass.Statement.{statement}
 use Rattle.passes.proofs.inner.pass.Tie as tie
 
@@ -39,25 +38,21 @@ module _ (c : tie.After-order-rows) where
       let put = c .before .before .before .before .before .before .before .put-keys in
       ordered (s .args .list .now) (length (s .args .order .now)) (s .args .rule) (s .args .params) (put .last .1 .1 .1 .0) (drop (length (s .args .order .now) * widthOf (s .args .rule)) (s .args .keys .now)) (c .order-rows .last .1 .1 .0) (c .before .before .before .width-of .result) (put .ensures) (c .before .before .before .width-of .ensures) (c .order-rows .ensures .0)
 
-gather-requires : tie.Need-gather-requires
-gather-requires c κs = let s = c .before .before .before .before .before .before .before .before .before .before .before .before .before .before .before .before .before .before .before .before in
-    let at = c .before .before .before .before .before .before in
-    let put = c .before .before .before .before .before .before .before .before .before .before .before .before .before .put-keys in
-    let e = sorted-order at in
-    let order = at .order-rows .last .1 .1 .0 in
-    let n = length (s .args .order .now) in
-    (in-list (s .args .list .now) n (s .args .rule) (s .args .params) order e (s .pre .0), omega (arith, order-size (s .args .list .now) n (s .args .rule) (s .args .params) order e (s .pre .0), put .kept .1 .1 .1 .0, s .pre .2))
+  as-many : length (c .order-rows .last .1 .1 .0) ≡ length (c .before .before .before .before .before .before .before .before .before .before .before .before .before .before .args .order .now)
+  as-many = let s = c .before .before .before .before .before .before .before .before .before .before .before .before .before .before in order-size (s .args .list .now) (length (s .args .order .now)) (s .args .rule) (s .args .params) (c .order-rows .last .1 .1 .0) sorted-order (s .pre .0)
+
+stands-requires : tie.Need-stands-requires
+stands-requires c κs = let s = c .before .before .before .before .before .before .before .before .before .before .before .before .before .before .before .before .before .before .before in omega (arith, as-many (c .before .before .before .before .before), s .pre .4)
 
 put-groups-requires : tie.Need-put-groups-requires
-put-groups-requires c κs = let s = c .before .before .before .before .before .before .before .before .before .before .before .before .before .before .before .before .before .before .before .before .before .before .before .before .before .before .before in
-    let at = c .before .before .before .before .before .before .before .before .before .before .before .before .before in
-    let put = c .before .before .before .before .before .before .before .before .before .before .before .before .before .before .before .before .before .before .before .before .put-keys in
+put-groups-requires c κs = let s = c .before .before .before .before .before .before .before .before .before .before .before .before .before .before .before .before .before .before .before .before .before .before .before .before in
+    let at = c .before .before .before .before .before .before .before .before .before .before in
     let e = sorted-order at in
     let order = at .order-rows .last .1 .1 .0 in
     let column = at .order-rows .last .1 .1 .1 .0 in
     let n = length (s .args .order .now) in
-    let l = order-size (s .args .list .now) n (s .args .rule) (s .args .params) order e (s .pre .0) in (
-      omega (arith, l, c .before .before .before .before .before .before .gather .kept .1 .1 .0, put .kept .1 .1 .1 .0, s .pre .2),
+    let l = as-many at in (
+      omega (arith, l, s .pre .0),
       in-column (s .args .list .now) n (s .args .rule) (s .args .params) order e (s .pre .0) column (omega (arith, at .order-rows .kept .1 .1 .1 .0, s .pre .1)),
       omega (arith, l, s .pre .3),
       omega (arith, l, s .pre .4),
@@ -76,10 +71,9 @@ same-length-4 : tie.Need-same-length-4
 same-length-4 c = search needs
 
 returns : tie.Need-returns
-returns c = let s = c .before .before .before .before .before .before .before .before .before .before .before .before .before .before .before .before .before .before .before .before .before .before .before .before .before .before .before .before .before .before .before .before in
-    let at = c .before .before .before .before .before .before .before .before .before .before .before .before .before .before .before .before .before .before in
-    let put = c .before .before .before .before .before .before .before .before .before .before .before .before .before .before .before .before .before .before .before .before .before .before .before .before .before .put-keys in
-    let gather = c .before .before .before .before .before .before .before .before .before .before .before .gather in
+returns c = let s = c .before .before .before .before .before .before .before .before .before .before .before .before .before .before .before .before .before .before .before .before .before .before .before .before .before .before .before .before .before in
+    let at = c .before .before .before .before .before .before .before .before .before .before .before .before .before .before .before in
+    let put = c .before .before .before .before .before .before .before .before .before .before .before .before .before .before .before .before .before .before .before .before .before .before .put-keys in
     let put-groups = c .before .before .before .before .put-groups in
     let e = sorted-order at in
     let order = at .order-rows .last .1 .1 .0 in
@@ -88,10 +82,65 @@ returns c = let s = c .before .before .before .before .before .before .before .b
     let n = length (s .args .order .now) in
     let rule = s .args .rule in
     let params = s .args .params in
-    finished list n rule params order e (s .pre .0) (s .args .out .now) (s .args .column .now) (s .args .keys .now) column (put .last .1 .1 .1 .0) (gather .last .1 .1 .0) (put-groups .result) (put-groups .last .1 .1 .1 .1 .0) (put-groups .last .1 .1 .1 .1 .1 .0)
+    finished list n rule params order e (s .pre .0) (s .args .out .now) (s .args .column .now) (s .args .keys .now) column (put .last .1 .1 .1 .0) (put-groups .result) (put-groups .last .1 .1 .1 .1 .0) (put-groups .last .1 .1 .1 .1 .1 .0)
+    (put-groups .ensures (peaksOf list n) (standing list n rule params order e (s .pre .0) (c .before .before .before .before .before .before .before .before .before .stands .ensures (c .before .before .before .before .before .before .before .before .if1 .taken))))
+    (omega (arith, at .order-rows .kept .1 .1 .1 .0, s .pre .1))
+    (at .order-rows .ensures .1)
+    (keys-only list n rule params order e (s .pre .0) (s .args .keys .now) (put .last .1 .1 .1 .0) (put .ensures))
+
+gather-requires : tie.Need-gather-requires
+gather-requires c κs = let s = c .before .before .before .before .before .before .before .before .before .before .before .before .before .before .before .before .before .before .before .before .before .before .before in
+    let at = c .before .before .before .before .before .before .before .before .before in
+    let put = c .before .before .before .before .before .before .before .before .before .before .before .before .before .before .before .before .put-keys in
+    let order = at .order-rows .last .1 .1 .0 in
+    let n = length (s .args .order .now) in
+    (in-list (s .args .list .now) n (s .args .rule) (s .args .params) order (sorted-order at) (s .pre .0), omega (arith, as-many at, put .kept .1 .1 .1 .0, s .pre .2))
+
+put-groups-requires-2 : tie.Need-put-groups-requires-2
+put-groups-requires-2 c κs = let s = c .before .before .before .before .before .before .before .before .before .before .before .before .before .before .before .before .before .before .before .before .before .before .before .before .before .before .before .before .before .before in
+    let at = c .before .before .before .before .before .before .before .before .before .before .before .before .before .before .before .before in
+    let put = c .before .before .before .before .before .before .before .before .before .before .before .before .before .before .before .before .before .before .before .before .before .before .before .put-keys in
+    let e = sorted-order at in
+    let order = at .order-rows .last .1 .1 .0 in
+    let column = at .order-rows .last .1 .1 .1 .0 in
+    let n = length (s .args .order .now) in
+    let l = as-many at in (
+      omega (arith, l, c .before .before .before .before .before .before .gather .kept .1 .1 .0, put .kept .1 .1 .1 .0, s .pre .2),
+      in-column (s .args .list .now) n (s .args .rule) (s .args .params) order e (s .pre .0) column (omega (arith, at .order-rows .kept .1 .1 .1 .0, s .pre .1)),
+      omega (arith, l, s .pre .3),
+      omega (arith, l, s .pre .4),
+    )
+
+same-length-5 : tie.Need-same-length-5
+same-length-5 c = search needs
+
+same-length-6 : tie.Need-same-length-6
+same-length-6 c = search needs
+
+same-length-7 : tie.Need-same-length-7
+same-length-7 c = search needs
+
+same-length-8 : tie.Need-same-length-8
+same-length-8 c = search needs
+
+returns-2 : tie.Need-returns-2
+returns-2 c = let s = c .before .before .before .before .before .before .before .before .before .before .before .before .before .before .before .before .before .before .before .before .before .before .before .before .before .before .before .before .before .before .before .before .before .before .before in
+    let at = c .before .before .before .before .before .before .before .before .before .before .before .before .before .before .before .before .before .before .before .before .before in
+    let put = c .before .before .before .before .before .before .before .before .before .before .before .before .before .before .before .before .before .before .before .before .before .before .before .before .before .before .before .before .put-keys in
+    let gather = c .before .before .before .before .before .before .before .before .before .before .before .gather in
+    let put-groups = c .before .before .before .before .put-groups2 in
+    let e = sorted-order at in
+    let order = at .order-rows .last .1 .1 .0 in
+    let column = at .order-rows .last .1 .1 .1 .0 in
+    let list = s .args .list .now in
+    let n = length (s .args .order .now) in
+    let rule = s .args .rule in
+    let params = s .args .params in
+    finished list n rule params order e (s .pre .0) (s .args .out .now) (s .args .column .now) (s .args .keys .now) column (gather .last .1 .1 .0) (put-groups .result) (put-groups .last .1 .1 .1 .1 .0) (put-groups .last .1 .1 .1 .1 .1 .0)
     (put-groups .ensures (peaksOf list n) (gathered list n rule params order e (s .pre .0) (gather .last .1 .1 .0) (drop (length order * size) (put .last .1 .1 .1 .0)) (gather .ensures)))
     (omega (arith, at .order-rows .kept .1 .1 .1 .0, s .pre .1))
-    (at .order-rows .ensures .1) (put .ensures) (gather .ensures)
+    (at .order-rows .ensures .1)
+    (keys-rest list n rule params order e (s .pre .0) (s .args .keys .now) (put .last .1 .1 .1 .0) (gather .last .1 .1 .0) (put .ensures) (gather .ensures))
 
 pub pass-spec : {M : Type 1} → statement M
 pass-spec =
@@ -100,10 +149,17 @@ pass-spec =
     put-keys-requires
     width-of-requires
     order-rows-requires
-    gather-requires
+    stands-requires
     put-groups-requires
     same-length
     same-length-2
     same-length-3
     same-length-4
-    returns)
+    returns
+    gather-requires
+    put-groups-requires-2
+    same-length-5
+    same-length-6
+    same-length-7
+    same-length-8
+    returns-2)
