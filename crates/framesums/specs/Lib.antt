@@ -1,0 +1,3 @@
+-- The definitions that the contracts of `framesums` cite, and worked cases.
+pub mod Sums
+pub mod Cases
