@@ -5,8 +5,7 @@ use Prim.Native.Nat.{ℕ, zero, suc, _+_, _-_}
 use lib.Dec.{leb}
 use lib.ListN.{getD}
 use lib.Ieee.{Float}
-use Rattle.numeric.specs.Arith.{_⊕_, 𝟎}
-use Rattle.numeric.specs.Numeric.{at}
+use Rattle.numeric.specs.Arith.{_⊕_, 𝟎, at}
 use Rattle.digits.specs.Sorted.{upTo}
 use Rattle.frameindex.specs.FrameIndex.{Index}
 use Rattle.framesums.specs.declared.inner.Window.{Window}
