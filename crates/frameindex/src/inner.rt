@@ -59,10 +59,10 @@ fn frames_rise(bins: &[u32], starts: &[u32]) -> bool
 pub fn is_sound(starts: &[u32], bins: &[u32], offsets: &[u32], points: usize) -> bool
     ensures { λ r. ⌜ r ≡ soundLists (now (starts .entry)) (now (bins .entry)) (now (offsets .entry)) points ⌝ }
 {
-    if !(climbs_to(bins.len(), starts) & climbs_to(points, offsets)) {
-        return false;
+    if climbs_to(bins.len(), starts) & climbs_to(points, offsets) {
+        return params::inner::all_up_to(limits::LAST_ROW, bins) & frames_rise(bins, starts);
     }
-    params::inner::all_up_to(limits::LAST_ROW, bins) & frames_rise(bins, starts)
+    false
 }
 
 fn one_more(n: usize, m: usize) -> bool

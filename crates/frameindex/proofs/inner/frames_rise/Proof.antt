@@ -1,76 +1,85 @@
-use mathlib.Core.Path.{_≡_, refl, sym, _∙_, ap, subst}
-use mathlib.Core.Bool.{Bool, true, false, cond}
-use mathlib.Core.List.{List, [], _∷_, _++_}
-use mathlib.Core.Logic.{⊎-elim}
-use Prim.Native.Nat.{ℕ, zero, suc, _≤_, _<_, _-_, _+_, _*_}
+use mathlib.Core.Path.{_≡_, sym, _∙_, ap}
+use mathlib.Core.Bool.{_&&_, Bool}
+use Prim.Native.Nat.{_≤_, _<_, _-_, _+_}
 use native.Mathlib.Omega.{arith}
 use borrow.Author.Needs.{needs}
-use lib.Dec.{T, ltb, leb, eqb}
-use lib.ListN.{length, getD, drop, take, set}
-use lib.Ieee.{Float, nan, binary32, lt}
+use lib.ListN.{length, getD, drop}
+use Rattle.numeric.proofs.Laws.{and-true, and-assoc}
+use Rattle.params.specs.Params.{rising}
+use Rattle.frameindex.specs.FrameIndex.{framesRise, framesRiseFrom, binsBetween}
+use Rattle.frameindex.proofs.Laws.{climbs-some, climbs-most, climbs-up, frames-start, frames-step, frames-end}
 use Rattle.frameindex.proofs.inner.frames_rise.Statement.{statement}
 use Rattle.frameindex.proofs.inner.frames_rise.Tie as tie
-use Rattle.frameindex.proofs.inner.frames_rise.Reads as reads
-use Rattle.frameindex.proofs.inner.frames_rise.Lts as lts
-use Rattle.frameindex.proofs.inner.rises.Reads as rises-reads
 
 abbrev Inv-loop : tie.InvT-loop
-Inv-loop bins starts all₀ f₀ all f = ?
+Inv-loop bins starts all₀ f₀ all f = (1 ≤ f) × (f ≤ length starts) × (framesRise bins starts ≡ (all && framesRiseFrom bins (getD starts (f - 1) 0) (drop f starts)))
 
 abbrev μ-loop : tie.MeasureT-loop
-μ-loop bins starts all₀ f₀ all f = ?
+μ-loop bins starts all₀ f₀ all f = length starts - f
 
--- src/inner.rt:49:5
 loop-holds : tie.Need-loop-holds Inv-loop μ-loop
-loop-holds c = search needs
+loop-holds c = let s = c .before .before in let l = s .args .starts .now in let some : 0 < length l = climbs-some (length (s .args .bins .now)) l (s .pre) in (omega arith, omega arith, frames-start (s .args .bins .now) l some)
 
--- src/inner.rt:50:24
 sub-s : tie.Need-sub-s Inv-loop μ-loop
 sub-s c = search needs
 
--- src/inner.rt:50:17
 mul-s : tie.Need-mul-s Inv-loop μ-loop
 mul-s c = search needs
 
--- src/inner.rt:50:17
 shared-slice-read-s : tie.Need-shared-slice-read-s Inv-loop μ-loop
 shared-slice-read-s c = search needs
 
--- src/inner.rt:50:17
 cast-s : tie.Need-cast-s Inv-loop μ-loop
-cast-s c = search needs
+cast-s c = omega (arith, c .shared-slice-known3 .given (c .before .before .loop .f - 1))
 
--- src/inner.rt:51:17
 mul-t : tie.Need-mul-t Inv-loop μ-loop
 mul-t c = search needs
 
--- src/inner.rt:51:17
 shared-slice-read-t : tie.Need-shared-slice-read-t Inv-loop μ-loop
 shared-slice-read-t c = search needs
 
--- src/inner.rt:51:17
 cast-t : tie.Need-cast-t Inv-loop μ-loop
-cast-t c = search needs
+cast-t c = omega (arith, c .shared-slice-known4 .given (c .before .before .before .loop .f))
 
--- src/inner.rt:52:21
 rises-requires : tie.Need-rises-requires Inv-loop μ-loop
-rises-requires c κs = search needs
+rises-requires c κs = let l = c .before .before .before in
+    let s = l .before .before .before in
+    let n = length (s .args .bins .now) in
+    let starts = s .args .starts .now in
+    let f = l .loop .f in
+    (climbs-up n starts (f - 1) f (s .pre) (omega arith) (omega arith), climbs-most n starts f (s .pre) (omega arith))
 
--- src/inner.rt:53:9
 add-f : tie.Need-add-f Inv-loop μ-loop
 add-f c = search needs
 
--- src/inner.rt:49:5
 loop-less : tie.Need-loop-less Inv-loop μ-loop
 loop-less c = search needs
 
--- src/inner.rt:49:5
 loop-again : tie.Need-loop-again Inv-loop μ-loop
-loop-again c = ?
+loop-again c = let l = c .before .before .before .before in
+    let s = l .before .before .before in
+    let bins = s .args .bins .now in
+    let starts = s .args .starts .now in
+    let f = l .loop .f in
+    let from = getD starts (f - 1) 0 in
+    let to = getD starts f 0 in
+    let e : f + 1 - 1 ≡ f = omega arith in (
+      omega arith,
+      omega arith,
+      rw (e, c .rises .ensures)
+          (l .loop .inv .2
+          ∙ ap (λ (b : Bool). l .loop .all && b) (frames-step bins from starts f (omega arith))
+          ∙ and-assoc (l .loop .all) (rising (binsBetween bins from to)) (framesRiseFrom bins to (drop (f + 1) starts))),
+    )
 
--- src/inner.rt:43:1
 returns : tie.Need-returns Inv-loop μ-loop
-returns c = ?
+returns c = let l = c .before in
+    let s = l .before .before .before in
+    let starts = s .args .starts .now in
+    let f = l .loop .f in
+    sym (l .loop .inv .2
+    ∙ ap (λ (b : Bool). l .loop .all && b) (frames-end (s .args .bins .now) (getD starts (f - 1) 0) starts f (omega arith))
+    ∙ and-true (l .loop .all))
 
 pub frames-rise-spec : {M : Type 1} → statement M
 frames-rise-spec =
