@@ -1,0 +1,2 @@
+-- What the proofs of `framesums` cite.
+pub mod Laws
