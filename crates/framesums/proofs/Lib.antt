@@ -1,2 +1,3 @@
 -- What the proofs of `framesums` cite.
 pub mod Laws
+pub mod Scans
