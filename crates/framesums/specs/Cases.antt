@@ -9,28 +9,28 @@ use lib.Ieee.{Float, binary32, add, ofBits, toBits}
 use Rattle.digits.specs.Sorted.{upTo}
 use Rattle.frameindex.specs.FrameIndex.{Index}
 use Rattle.framesums.specs.declared.inner.Window.{Window}
-use Rattle.framesums.specs.Sums.{addPoints, addBins, addFrame, addFrames, frameSums, scanSums}
+use Rattle.framesums.specs.Sums.{addPoints, addBins, addFrame, frameSums}
 use Rattle.framesums.specs.Steps.{indexOf}
 
-abbrev float : ℕ → Float
+abbrev pub float : ℕ → Float
 float b = ofBits binary32 b
 
 -- 1, 2, 4 and 2^24, to which one by one adds nothing
-abbrev one : Float
+abbrev pub one : Float
 one = float 0x3f80_0000
 
-abbrev two : Float
+abbrev pub two : Float
 two = float 0x4000_0000
 
-abbrev four : Float
+abbrev pub four : Float
 four = float 0x4080_0000
 
-abbrev large : Float
+abbrev pub large : Float
 large = float 0x4b80_0000
 
 -- Three frames. The first has bin 5 with readings 2 at scan 10 and 4 at scan 20, bin 7 with 2^24, 1, 1 at scans 12, 12, 11, and bin 9 with
 -- 4 at scan 12. The second has no bin. The third has bin 7 with 1, 1, 2^24 at scans 12, 11, 12.
-abbrev run : Index
+abbrev pub run : Index
 run =
     indexOf
     (0 ∷ 3 ∷ 3 ∷ 4 ∷ [])
@@ -39,7 +39,7 @@ run =
     (10 ∷ 20 ∷ 12 ∷ 12 ∷ 11 ∷ 12 ∷ 12 ∷ 11 ∷ 12 ∷ [])
     (two ∷ four ∷ large ∷ one ∷ one ∷ four ∷ one ∷ one ∷ large ∷ [])
 
-abbrev window : ℕ → ℕ → ℕ → ℕ → Window
+abbrev pub window : ℕ → ℕ → ℕ → ℕ → Window
 window b c s t = record { «bin_lo» = b; «bin_hi» = c; «scan_lo» = s; «scan_hi» = t }
 
 -- Bin 7 alone: the order of the points tells. Then the first bin counts at the window's lower end and the last at its upper end, scans
@@ -61,10 +61,3 @@ pub along-frames :
     ∷ []
 unfolding frameSums addFrame addBins addPoints upTo add ofBits toBits
 along-frames = refl
-
--- Scans 10 to 12 of bins 5 to 7 over all frames, and of bin 7 over the last two.
-pub along-scans :
-    map (toBits binary32) (scanSums run (window 5 7 10 12) 0 3) ∷ map (toBits binary32) (scanSums run (window 7 7 11 12) 1 2) ∷ []
-    ≡ (0x4000_0000 ∷ 0x4000_0000 ∷ 0x4c00_0000 ∷ []) ∷ (0x3f80_0000 ∷ 0x4b80_0000 ∷ []) ∷ []
-unfolding scanSums addFrames addFrame addBins addPoints upTo add ofBits toBits
-along-scans = refl

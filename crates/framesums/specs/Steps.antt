@@ -3,9 +3,8 @@ use mathlib.Core.Path.{_≡_}
 use mathlib.Core.Bool.{true}
 use mathlib.Core.List.{List}
 use Prim.Native.Nat.{ℕ, _+_, _-_, _≤_, _<_}
-use lib.ListN.{length, getD, drop}
+use lib.ListN.{length, getD}
 use lib.Ieee.{Float}
-use Rattle.numeric.specs.Arith.{at}
 use Rattle.frameindex.specs.FrameIndex.{Index, soundIndex, points}
 use Rattle.framesums.specs.declared.inner.Window.{Window}
 use Rattle.framesums.specs.declared.inner.Span.{Span}
@@ -40,15 +39,3 @@ pub record PointsOf (ix : Index) (w : Window) (f : ℕ) (p : Span) : Type 0 wher
   pub order : p .from ≤ p .to
   pub most : p .to ≤ points ix
   pub sum : (lo hi : ℕ) (so : Float) → addFrame ix (withScans w lo hi) f so ≡ addPoints ix (withScans w lo hi) (p .to - p .from) (p .from) so
-
--- ---- along mobility
-
--- the scans of a window
-abbrev pub scansOf : Window → ℕ
-scansOf w = w .«scan_hi» + 1 - w .«scan_lo»
-
--- each of the first m values has become what `step` makes of it, and those behind are as they were
-pub record Stepped (step : ℕ → Float → Float) (m : ℕ) (old new : List Float) : Type 0 where
-  pub size : length new ≡ length old
-  pub front : (k : ℕ) → k < m → at new k ≡ step k (at old k)
-  pub rest : drop m new ≡ drop m old

@@ -3,10 +3,11 @@ use Prim.Native.Nat.{_≤_, _-_, _+_}
 use native.Mathlib.Omega.{arith}
 use borrow.Author.Needs.{needs}
 use lib.ListN.{length}
-use Rattle.framesums.specs.Steps.{indexOf, scansOf}
-use Rattle.framesums.proofs.Scans.{Summing, summing-start, summing-more, summing-end}
-use Rattle.framesums.proofs.inner.put_scan_sums.Statement.{statement}
-use Rattle.framesums.proofs.inner.put_scan_sums.Tie as tie
+use Rattle.framesums.specs.Steps.{indexOf}
+use Rattle.scansums.specs.Steps.{scansOf}
+use Rattle.scansums.proofs.Laws.{Summing, summing-start, summing-more, summing-end}
+use Rattle.scansums.proofs.inner.put_scan_sums.Statement.{statement}
+use Rattle.scansums.proofs.inner.put_scan_sums.Tie as tie
 
 abbrev Inv-loop : tie.InvT-loop
 Inv-loop starts bins offsets scans readings from n w out₀ k₀ out k = Summing (indexOf starts bins offsets scans readings) w from n out₀ k out

@@ -13,11 +13,12 @@ use Rattle.refusal.proofs.Bools.{clash, both, and-false}
 use Rattle.numeric.specs.Arith.{_⊕_, 𝟎, at}
 use Rattle.digits.specs.Sorted.{upTo}
 use Rattle.frameindex.specs.FrameIndex.{Index}
 use Rattle.framesums.specs.declared.inner.Window.{Window}
 use Rattle.framesums.specs.declared.inner.Span.{Span}
 use Rattle.framesums.specs.Sums.{inScans, addPoints, addFrame, addFrames, atScan, scanSums}
-use Rattle.framesums.specs.Steps.{PointsOf, scansOf, Stepped}
+use Rattle.framesums.specs.Steps.{PointsOf}
+use Rattle.scansums.specs.Steps.{scansOf, Stepped}
 use Rattle.framesums.proofs.Laws.{points-take, points-skip, points-none}
 
 -- a window of one scan has that scan and no other
 one-scan : (w : Window) (a s : ℕ) → a ≡ s → inScans (atScan w a) s ≡ true

@@ -4,10 +4,10 @@ use native.Mathlib.Omega.{arith}
 use borrow.Author.Needs.{needs}
 use lib.ListN.{length}
 use Rattle.numeric.specs.Arith.{𝟎}
-use Rattle.framesums.specs.Steps.{Stepped}
-use Rattle.framesums.proofs.Scans.{clear-none, clear-more}
-use Rattle.framesums.proofs.inner.clear.Statement.{statement}
-use Rattle.framesums.proofs.inner.clear.Tie as tie
+use Rattle.scansums.specs.Steps.{Stepped}
+use Rattle.scansums.proofs.Laws.{clear-none, clear-more}
+use Rattle.scansums.proofs.inner.clear.Statement.{statement}
+use Rattle.scansums.proofs.inner.clear.Tie as tie
 
 abbrev Inv-loop : tie.InvT-loop
 Inv-loop n out₀ k₀ out k = (k ≤ n) × Stepped (λ _ _. 𝟎) k out₀ out

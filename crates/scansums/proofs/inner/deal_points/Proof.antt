@@ -4,10 +4,10 @@ use Prim.Native.Nat.{_-_}
 use native.Mathlib.Omega.{arith}
 use borrow.Author.Needs.{needs}
 use lib.ListN.{length, getD}
 use Rattle.framesums.specs.Steps.{indexOf}
-use Rattle.framesums.proofs.Scans.{Dealing, deal-start, deal-end, deal-take, deal-skip, scan-in}
-use Rattle.framesums.proofs.inner.deal_points.Statement.{statement}
-use Rattle.framesums.proofs.inner.deal_points.Tie as tie
+use Rattle.scansums.proofs.Laws.{Dealing, deal-start, deal-end, deal-take, deal-skip, scan-in}
+use Rattle.scansums.proofs.inner.deal_points.Statement.{statement}
+use Rattle.scansums.proofs.inner.deal_points.Tie as tie
 
 abbrev Inv-loop : tie.InvT-loop
 Inv-loop starts bins offsets scans readings p w out₀ j₀ out j = Dealing (indexOf starts bins offsets scans readings) w (p .from) (p .to) out₀ j out
