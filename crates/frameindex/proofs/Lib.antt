@@ -1,0 +1,2 @@
+-- What the proofs of `frameindex` cite, and laws for those who read a checked index.
+pub mod Laws

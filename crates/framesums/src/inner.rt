@@ -1,0 +1,152 @@
+// Sums over the points of a checked index: those of a frame whose bins lie in a window stand side by side.
+ghost use mathlib.Core.Path.{_≡_};
+ghost use mathlib.Core.List.{_++_};
+ghost use Prim.Native.Nat.{ℕ, _≤_, _<_, _+_, _-_};
+ghost use lib.ListN.{length, getD, drop};
+ghost use Rattle.framesums.specs.Sums.{addPoints, addFrame, frameSums};
+ghost use Rattle.framesums.specs.Steps.{indexOf, Checked, Rising, FirstAt, PointsOf};
+
+// Bins and scans, ends included.
+pub struct Window {
+    pub bin_lo: u32,
+    pub bin_hi: u32,
+    pub scan_lo: u32,
+    pub scan_hi: u32,
+}
+
+// Points from a place on, before another.
+pub struct Span {
+    pub from: usize,
+    pub to: usize,
+}
+
+// The first place whose bin is x at least, by halving.
+fn first_at(bins: &[u32], from: usize, to: usize, x: u32) -> usize
+    requires { ⌜ (from ≤ to) × (to ≤ length (now bins)) × Rising (now bins) from to ⌝ }
+    ensures { λ r. ⌜ FirstAt (now (bins .entry)) from to x r ⌝ }
+{
+    if from == to {
+        return from;
+    }
+    let mut base = from;
+    let mut n = to - from;
+    while n > 1 {
+        let half = n / 2;
+        if bins[base + half] < x {
+            base += half;
+        }
+        n -= half;
+    }
+    if bins[base] < x { base + 1 } else { base }
+}
+
+// The first place whose bin is above x, step by step, since windows are narrow.
+fn first_above(bins: &[u32], from: usize, to: usize, x: u32) -> usize
+    requires { ⌜ (from ≤ to) × (to ≤ length (now bins)) × Rising (now bins) from to ⌝ }
+    ensures { λ r. ⌜ FirstAt (now (bins .entry)) from to (x + 1) r ⌝ }
+{
+    let mut i = from;
+    while i < to {
+        if x < bins[i] {
+            return i;
+        }
+        i += 1;
+    }
+    i
+}
+
+fn place_at(list: &[u32], i: usize) -> usize
+    requires { ⌜ i < length (now list) ⌝ }
+    ensures { λ r. ⌜ r ≡ getD (now (list .entry)) i 0 ⌝ }
+{
+    list[i] as usize
+}
+
+// The points of frame f whose bins lie in the window.
+pub fn span_of(
+    starts: &[u32],
+    bins: &[u32],
+    offsets: &[u32],
+    scans: &[u32],
+    readings: &[f32],
+    f: usize,
+    w: Window,
+) -> Span
+    requires { ⌜ Checked (indexOf (now starts) (now bins) (now offsets) (now scans) (now readings)) × (f + 1 < length (now starts)) ⌝ }
+    ensures { λ r. ⌜ PointsOf (indexOf (now (starts .entry)) (now (bins .entry)) (now (offsets .entry)) (now (scans .entry)) (now (readings .entry))) w f r ⌝ }
+{
+    let s = place_at(starts, f);
+    let t = place_at(starts, f + 1);
+    let i = first_at(bins, s, t, w.bin_lo);
+    let j = first_above(bins, i, t, w.bin_hi);
+    Span {
+        from: place_at(offsets, i),
+        to: place_at(offsets, j),
+    }
+}
+
+// Adds the readings of a span whose scans lie in the window.
+fn add_points(
+    starts: &[u32],
+    bins: &[u32],
+    offsets: &[u32],
+    scans: &[u32],
+    readings: &[f32],
+    p: Span,
+    w: Window,
+    so: f32,
+) -> f32
+    requires { ⌜ (p .from ≤ p .to) × (p .to ≤ length (now scans)) × (length (now readings) ≡ length (now scans)) ⌝ }
+    ensures { λ r. ⌜ r ≡ addPoints (indexOf (now (starts .entry)) (now (bins .entry)) (now (offsets .entry)) (now (scans .entry)) (now (readings .entry))) w (p .to - p .from) (p .from) so ⌝ }
+{
+    let mut sum = so;
+    let mut j = p.from;
+    while j < p.to {
+        let s = scans[j];
+        if (w.scan_lo <= s) & (s <= w.scan_hi) {
+            sum = sum + readings[j];
+        }
+        j += 1;
+    }
+    sum
+}
+
+// Adds the readings of frame f whose bin and scan lie in the window.
+pub fn add_frame(
+    starts: &[u32],
+    bins: &[u32],
+    offsets: &[u32],
+    scans: &[u32],
+    readings: &[f32],
+    f: usize,
+    w: Window,
+    so: f32,
+) -> f32
+    requires { ⌜ Checked (indexOf (now starts) (now bins) (now offsets) (now scans) (now readings)) × (f + 1 < length (now starts)) ⌝ }
+    ensures { λ r. ⌜ r ≡ addFrame (indexOf (now (starts .entry)) (now (bins .entry)) (now (offsets .entry)) (now (scans .entry)) (now (readings .entry))) w f so ⌝ }
+{
+    let p = span_of(starts, bins, offsets, scans, readings, f, w);
+    add_points(starts, bins, offsets, scans, readings, p, w, so)
+}
+
+// A sum for each of n frames.
+pub fn put_frame_sums(
+    starts: &[u32],
+    bins: &[u32],
+    offsets: &[u32],
+    scans: &[u32],
+    readings: &[f32],
+    from: usize,
+    n: usize,
+    w: Window,
+    out: &mut [f32],
+)
+    requires { ⌜ Checked (indexOf (now starts) (now bins) (now offsets) (now scans) (now readings)) × (from + n < length (now starts)) × (n ≤ length (now out)) ⌝ }
+    ensures { λ _. ⌜ now (out .exit) ≡ frameSums (indexOf (now (starts .entry)) (now (bins .entry)) (now (offsets .entry)) (now (scans .entry)) (now (readings .entry))) w from n ++ drop n (now (out .entry)) ⌝ }
+{
+    let mut k = 0usize;
+    while k < n {
+        out[k] = add_frame(starts, bins, offsets, scans, readings, from + k, w, 0.0);
+        k += 1;
+    }
+}

@@ -1,0 +1,2 @@
+// Sums over the points of a checked index.
+pub mod inner;

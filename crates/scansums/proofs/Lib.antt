@@ -1,0 +1,2 @@
+-- What the proofs of `scansums` cite.
+pub mod Laws

@@ -1,0 +1,2 @@
+// Sums by scan over the points of a checked index.
+pub mod inner;
