@@ -1,0 +1,2 @@
+-- The laws that the proofs of `framebins` share.
+pub mod Laws
