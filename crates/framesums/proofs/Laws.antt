@@ -284,7 +284,7 @@ module _ (ix : Index) (w : Window) (f : ℕ) where
   unfolding frameSums upTo
   sums-none = refl
 
-  sums-length : (k : ℕ) → length (frameSums ix w f k) ≡ k
+  pub sums-length : (k : ℕ) → length (frameSums ix w f k) ≡ k
   unfolding frameSums
   sums-length k = length-map (upTo k) (λ i. addFrame ix w (f + i) 𝟎) ∙ upto-length k
 

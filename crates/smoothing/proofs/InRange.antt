@@ -144,17 +144,23 @@ weights-at-most ws h f i k =
     (div-at-most (at ws i) (sumFrom 𝟎 ws) one (a i n .0) (t .all) (lt-of-lt-of-le one-pos o) (subst Rep mag-one (rep 𝟏 num-one))
     (le-trans (mul-le-mul-right one (t .each i n)) (le-of-eq (mul-comm (mag (sumFrom 𝟎 ws)) one))))
 
-pub smoothed-in-range : SmoothedInRange
+-- a row from 0 to 2 ^ t stays so
+pub smoothed-at-most : (t : ℕ) → t ≤ 100 → (ws z : List Float) → soundWeights ws ≡ true → AllFit ws → AllAtMost z (one * 2 ^ t)
+    → AllAtMost (smoothed ws z) (one * 2 ^ t)
 unfolding smoothed
-smoothed-in-range ws z h f g r =
+smoothed-at-most t small ws z h f q i k =
     let u = normalised ws in
     let c : length u ≤ maxWeights = le-trans (le-of-eq (normalised-length ws)) (sound ws h .count) in
+    let n : i < length z = subst (λ (x : ℕ). i < x) (smoothed-length ws z) k in
+    subst (λ (x : Float). AtMost x (one * 2 ^ t)) (sym (at-tab (length z) (smoothedAt u z) i n))
+    (mean t small u z (weights-at-most ws h f) q (omega arith) i)
+
+pub smoothed-in-range : SmoothedInRange
+smoothed-in-range ws z h f g r =
     let q : AllAtMost z (one * 2 ^ 32) = λ j l. subst (AtMost (at z j)) mag-readings (in-at-most maxReading (at z j) (lit< tt) (g j l) (range-at maxReading z j r l)) in
     all-range maxReading (smoothed ws z) (λ i k.
-    let n : i < length z = subst (λ (x : ℕ). i < x) (smoothed-length ws z) k in
-    subst (λ (x : Float). inRange maxReading x ≡ true) (sym (at-tab (length z) (smoothedAt u z) i n))
-    (at-most-in maxReading (smoothedAt u z i) (lit< tt)
-    (subst (AtMost (smoothedAt u z i)) (sym mag-readings) (mean 32 (lit≤ tt) u z (weights-at-most ws h f) q (omega arith) i))))
+    at-most-in maxReading (at (smoothed ws z) i) (lit< tt)
+    (subst (AtMost (at (smoothed ws z) i)) (sym mag-readings) (smoothed-at-most 32 (lit≤ tt) ws z h f q i k)))
 
 -- whatever the weights, a smoothed row is one of binary32 values
 pub smoothed-fits : (ws z : List Float) → AllFit (smoothed ws z)
