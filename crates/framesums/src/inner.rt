@@ -21,7 +21,7 @@ pub struct Span {
 }
 
 // The first place whose bin is x at least, by halving.
-fn first_at(bins: &[u32], from: usize, to: usize, x: u32) -> usize
+pub fn first_at(bins: &[u32], from: usize, to: usize, x: u32) -> usize
     requires { ⌜ (from ≤ to) × (to ≤ length (now bins)) × Rising (now bins) from to ⌝ }
     ensures { λ r. ⌜ FirstAt (now (bins .entry)) from to x r ⌝ }
 {
