@@ -1,0 +1,2 @@
+-- What the proofs of `rtplace` cite, and where a placed peak lies.
+pub mod Laws

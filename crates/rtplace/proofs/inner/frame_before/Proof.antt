@@ -1,0 +1,53 @@
+use mathlib.Core.Path.{_≡_, refl, sym, _∙_, ap, subst}
+use mathlib.Core.Bool.{Bool, true, false, cond}
+use mathlib.Core.List.{List, [], _∷_, _++_}
+use mathlib.Core.Logic.{⊎-elim}
+use Prim.Native.Nat.{ℕ, zero, suc, _≤_, _<_, _-_, _+_, _*_}
+use native.Mathlib.Omega.{arith}
+use borrow.Author.Needs.{needs}
+use lib.Dec.{T, ltb, leb, eqb}
+use lib.ListN.{length, getD, drop, take, set}
+use lib.Ieee.{Float, nan, binary32, lt}
+use Rattle.spans.specs.Span.{sampleAt}
+use Rattle.rounding.specs.Rounding.{floorF}
+use Rattle.rtplace.proofs.Laws.{sample-most}
+use Rattle.rtplace.proofs.inner.frame_before.Statement.{statement}
+use Rattle.rtplace.proofs.inner.frame_before.Tie as tie
+use Rattle.rtplace.proofs.inner.frame_before.Reads as reads
+use Rattle.rtplace.proofs.inner.frame_before.Lts as lts
+use Rattle.numeric.proofs.cast_sat.Reads as cast-sat-reads
+use Rattle.numeric.proofs.clamp.Reads as clamp-reads
+use Rattle.numeric.proofs.inner.of_index.Reads as of-index-reads
+use Rattle.rounding.proofs.floor.Reads as floor-reads
+
+sub-of-index : tie.Need-sub-of-index
+sub-of-index c = search needs
+
+of-index-requires : tie.Need-of-index-requires
+of-index-requires c κs = search needs
+
+floor-requires : tie.Need-floor-requires
+floor-requires c κs = search needs
+
+clamp-requires : tie.Need-clamp-requires
+clamp-requires c κs = search needs
+
+cast-sat-requires : tie.Need-cast-sat-requires
+cast-sat-requires c κs = search needs
+
+returns : tie.Need-returns
+returns c = let k = c .before in
+    let s = k .before .before .before in
+    let is : c .cast-sat .result ≡ sampleAt (s .args .n) (floorF (s .args .x)) = simp (c .cast-sat .ensures, k .clamp .ensures, k .before .floor .ensures, k .before .before .of-index .ensures) in
+    (is, rw is (sample-most (s .args .n) (floorF (s .args .x)) (s .pre .0) (s .pre .1)))
+
+pub frame-before-spec : {M : Type 1} → statement M
+frame-before-spec =
+    tie.close
+    (tie.spec
+    sub-of-index
+    of-index-requires
+    floor-requires
+    clamp-requires
+    cast-sat-requires
+    returns)
