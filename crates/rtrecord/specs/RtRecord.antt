@@ -1,11 +1,14 @@
 -- Retention peaks as words: a list of peaks is a list of words, as many for each peak, floats as their bit patterns. There are
 -- two kinds of records, which begin alike: those of one trace, and those of the run.
+use mathlib.Core.Bool.{cond}
 use mathlib.Core.List.{List, [], _∷_, _++_}
-use Prim.Native.Nat.{ℕ, _+_, _*_}
+use Prim.Native.Nat.{ℕ, _+_, _*_, _%_}
 use lib.ListN.{getD, take, drop}
 use lib.Ieee.{Float, binary32, ofBits}
-use Rattle.record.specs.Record.{idWords, word}
+use Rattle.record.specs.Record.{idWords, word, hasGroup}
+use Rattle.record.specs.declared.ImPeak1D.{ImPeak1D}
 use Rattle.rtrecord.specs.declared.RtApex.{RtApex}
+use Rattle.rtrecord.specs.declared.RtBounds.{RtBounds}
 use Rattle.rtrecord.specs.declared.RtPeak1D.{RtPeak1D}
 use Rattle.rtrecord.specs.declared.RtLocalPeak.{RtLocalPeak}
 
@@ -120,3 +123,31 @@ localAt l k = localFrom l (k * localSize)
 
 unfoldable pub withLocal : List ℕ → ℕ → RtLocalPeak → List ℕ
 withLocal l k p = take (k * localSize) l ++ (localWords p ++ drop (k * localSize + localSize) l)
+
+-- ---- what a retention peak takes over from its mobility peak: the window group, if it has one, its TOF values and its identity
+
+-- the bit that tells of the window group; the flags of mobility and scan sigma are not kept
+abbrev pub groupFlag : ImPeak1D → ℕ
+groupFlag p = p .flags % 2
+
+unfoldable pub groupWord : ImPeak1D → ℕ
+groupWord p = cond (hasGroup p) (p .«window_group») 0
+
+-- the retention peak of the mobility peak p with an apex, bounds and an identity
+unfoldable pub rtPeakOf : RtApex → RtBounds → ImPeak1D → ℕ → RtPeak1D
+rtPeakOf apex b p i =
+    record {
+      apex = apex;
+      «rt_lo» = b .«rt_lo»;
+      «rt_hi» = b .«rt_hi»;
+      «frame_id_lo» = b .«frame_id_lo»;
+      «frame_id_hi» = b .«frame_id_hi»;
+      flags = groupFlag p;
+      «window_group» = groupWord p;
+      «tof_row» = p .«tof_row»;
+      «tof_center» = p .«tof_center»;
+      «tof_lo» = p .«tof_lo»;
+      «tof_hi» = p .«tof_hi»;
+      «parent_im_id» = p .id;
+      id = i;
+    }

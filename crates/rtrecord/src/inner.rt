@@ -1,8 +1,10 @@
 // Reading and writing records in lists that the caller has checked.
 use super::PeakId;
 use super::RtApex;
+use super::RtBounds;
 use super::RtLocalPeak;
 use super::RtPeak1D;
+use record::ImPeak1D;
 ghost use mathlib.Core.Path.{_≡_};
 ghost use mathlib.Core.List.{_++_};
 ghost use Prim.Native.Nat.{_≤_, _+_, _*_};
@@ -11,6 +13,41 @@ ghost use lib.Seq.{sets};
 ghost use Rattle.record.specs.Record.{idWords};
 ghost use Rattle.rtrecord.specs.RtRecord.{apexSize, rtSize, localSize, idsPlace, apexWords, rtWords, localWords};
 ghost use Rattle.rtrecord.specs.RtRecord.{apexFrom, rtParentAt, rtIdAt, rtPeakFrom, rtPeakAt, localFrom, localAt, withRtPeak, withLocal};
+ghost use Rattle.rtrecord.specs.RtRecord.{groupWord, rtPeakOf};
+
+// ---- what a retention peak takes over from its mobility peak
+
+// The window group, 0 for a missing one.
+fn group_word(p: ImPeak1D) -> u32
+    ensures { λ r. ⌜ r ≡ groupWord p ⌝ }
+{
+    if p.flags % 2 == ImPeak1D::HAS_GROUP {
+        p.window_group
+    } else {
+        0
+    }
+}
+
+// The retention peak of a mobility peak with this apex, these bounds and this identity.
+pub fn rt_peak_of(apex: RtApex, b: RtBounds, parent: ImPeak1D, id: PeakId) -> RtPeak1D
+    ensures { λ r. ⌜ r ≡ rtPeakOf apex b parent id ⌝ }
+{
+    RtPeak1D {
+        apex,
+        rt_lo: b.rt_lo,
+        rt_hi: b.rt_hi,
+        frame_id_lo: b.frame_id_lo,
+        frame_id_hi: b.frame_id_hi,
+        flags: parent.flags % 2,
+        window_group: group_word(parent),
+        tof_row: parent.tof_row,
+        tof_center: parent.tof_center,
+        tof_lo: parent.tof_lo,
+        tof_hi: parent.tof_hi,
+        parent_im_id: parent.id,
+        id,
+    }
+}
 
 // ---- identities
 

@@ -97,6 +97,14 @@ impl RtPeak1D {
     pub const ID: usize = 21;
 }
 
+// The frames that a retention peak reaches over, and their numbers.
+pub struct RtBounds {
+    pub rt_lo: u32,
+    pub rt_hi: u32,
+    pub frame_id_lo: u32,
+    pub frame_id_hi: u32,
+}
+
 // A retention peak of one trace, before it is placed in the run: frames are those of the trace. The ends and the width stand
 // in seconds too.
 pub struct RtLocalPeak {
