@@ -19,7 +19,8 @@ use Rattle.numeric.specs.Numeric.{castF, clampF}
 use Rattle.rounding.specs.Rounding.{floorF, ceilF}
 use Rattle.rounding.proofs.Guess.{cast-index}
 use Rattle.spans.specs.Span.{sampleAt}
-use Rattle.rtplace.specs.Placed.{ofParent, inRun, boundsIn, placed}
+use Rattle.rtrecord.specs.RtRecord.{rtPeakOf}
+use Rattle.rtplace.specs.Placed.{inRun, boundsIn, placed}
 use Rattle.rtplace.specs.PlacedLaws.{PlacedInside}
 
 -- what is not above a whole number is cut to that number at most
@@ -60,7 +61,7 @@ sample-most n x p h = go (lt x 𝟎) (lt (indexF (n - 1)) x) refl
     go false false t = omega (arith, index-most (n - 1) x (omega arith) t)
 
 pub placed-inside : PlacedInside
-unfolding placed ofParent inRun boundsIn
+unfolding placed rtPeakOf inRun boundsIn
 placed-inside lo n ids p a id k l h =
     let first = sample-most n (floorF (a .«left_x»)) k l in
     let last = sample-most n (ceilF (a .«right_x»)) k l in

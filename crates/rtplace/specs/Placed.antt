@@ -1,42 +1,15 @@
 -- The retention peak of a mobility peak, made of an apex of a trace.
-use mathlib.Core.Bool.{cond}
 use mathlib.Core.List.{List}
-use Prim.Native.Nat.{ℕ, _+_, _%_, min, max}
+use Prim.Native.Nat.{ℕ, _+_, min, max}
 use lib.ListN.{getD}
 use Rattle.numeric.specs.Arith.{_⊕_, indexF}
 use Rattle.rounding.specs.Rounding.{floorF, ceilF}
 use Rattle.spans.specs.Span.{sampleAt}
-use Rattle.record.specs.Record.{hasGroup}
 use Rattle.record.specs.declared.ImPeak1D.{ImPeak1D}
+use Rattle.rtrecord.specs.RtRecord.{rtPeakOf}
 use Rattle.rtrecord.specs.declared.RtApex.{RtApex}
+use Rattle.rtrecord.specs.declared.RtBounds.{RtBounds}
 use Rattle.rtrecord.specs.declared.RtPeak1D.{RtPeak1D}
-use Rattle.rtplace.specs.declared.inner.FrameBounds.{FrameBounds}
-
--- of the flags of a mobility peak a retention peak has that of the window group, and the group where it is there
-abbrev pub groupFlag : ImPeak1D → ℕ
-groupFlag p = p .flags % 2
-
-abbrev pub groupWord : ImPeak1D → ℕ
-groupWord p = cond (hasGroup p) (p .«window_group») 0
-
--- a retention peak: its apex and its frames, with the group, the TOF row, centre and bounds and the identity of its mobility peak
-unfoldable pub ofParent : ImPeak1D → RtApex → FrameBounds → ℕ → RtPeak1D
-ofParent p a b id =
-    record {
-      apex = a;
-      «rt_lo» = b .«rt_lo»;
-      «rt_hi» = b .«rt_hi»;
-      «frame_id_lo» = b .«frame_id_lo»;
-      «frame_id_hi» = b .«frame_id_hi»;
-      flags = groupFlag p;
-      «window_group» = groupWord p;
-      «tof_row» = p .«tof_row»;
-      «tof_center» = p .«tof_center»;
-      «tof_lo» = p .«tof_lo»;
-      «tof_hi» = p .«tof_hi»;
-      «parent_im_id» = p .id;
-      id = id;
-    }
 
 -- ---- an apex of the trace of the frames of a run from lo on, n of them
 
@@ -58,7 +31,7 @@ inRun lo a =
 
 -- The frames at or next to its ends, each held to the trace, by place in the run, and their numbers, the lower first. Where the ends
 -- stand the other way round, as those of a fallback may, so do the places.
-unfoldable pub boundsIn : ℕ → ℕ → List ℕ → RtApex → FrameBounds
+unfoldable pub boundsIn : ℕ → ℕ → List ℕ → RtApex → RtBounds
 boundsIn lo n ids a =
     let l = lo + sampleAt n (floorF (a .«left_x»)) in
     let r = lo + sampleAt n (ceilF (a .«right_x»)) in
@@ -71,4 +44,4 @@ boundsIn lo n ids a =
 
 -- the retention peak
 unfoldable pub placed : ℕ → ℕ → List ℕ → ImPeak1D → RtApex → ℕ → RtPeak1D
-placed lo n ids p a id = ofParent p (inRun lo a) (boundsIn lo n ids a) id
+placed lo n ids p a id = rtPeakOf (inRun lo a) (boundsIn lo n ids a) p id

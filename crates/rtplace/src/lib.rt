@@ -1,3 +1,3 @@
-// Retention peaks with what they have of their mobility peak, and placed in the run.
+// Retention peaks of a trace, placed in the run.
 // All of it is inner: the entries that check their input stand in the crates above.
 pub mod inner;

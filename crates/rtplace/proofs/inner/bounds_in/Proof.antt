@@ -1,22 +1,8 @@
-use mathlib.Core.Path.{_≡_, refl, sym, _∙_, ap, subst}
-use mathlib.Core.Bool.{Bool, true, false, cond}
-use mathlib.Core.List.{List, [], _∷_, _++_}
-use mathlib.Core.Logic.{⊎-elim}
-use Prim.Native.Nat.{ℕ, zero, suc, _≤_, _<_, _-_, _+_, _*_}
-use native.Mathlib.Omega.{arith}
+use Prim.Native.Nat.{_-_}
 use borrow.Author.Needs.{needs}
-use lib.Dec.{T, ltb, leb, eqb}
-use lib.ListN.{length, getD, drop, take, set}
-use lib.Ieee.{Float, nan, binary32, lt}
 use Rattle.rtplace.specs.Placed.{boundsIn}
 use Rattle.rtplace.proofs.inner.bounds_in.Statement.{statement}
 use Rattle.rtplace.proofs.inner.bounds_in.Tie as tie
-use Rattle.rtplace.proofs.inner.bounds_in.Reads as reads
-use Rattle.rtplace.proofs.inner.bounds_in.Lts as lts
-use Rattle.numeric.proofs.inner.higher.Reads as higher-reads
-use Rattle.numeric.proofs.inner.lower.Reads as lower-reads
-use Rattle.rtplace.proofs.inner.frame_before.Reads as frame-before-reads
-use Rattle.rtplace.proofs.inner.frame_behind.Reads as frame-behind-reads
 
 frame-before-requires : tie.Need-frame-before-requires
 frame-before-requires c κs = search needs

@@ -1,24 +1,11 @@
-use mathlib.Core.Path.{_≡_, refl, sym, _∙_, ap, subst}
-use mathlib.Core.Bool.{Bool, true, false, cond}
-use mathlib.Core.List.{List, [], _∷_, _++_}
-use mathlib.Core.Logic.{⊎-elim}
-use Prim.Native.Nat.{ℕ, zero, suc, _≤_, _<_, _-_, _+_, _*_}
-use native.Mathlib.Omega.{arith}
+use mathlib.Core.Path.{_≡_}
+use Prim.Native.Nat.{_-_}
 use borrow.Author.Needs.{needs}
-use lib.Dec.{T, ltb, leb, eqb}
-use lib.ListN.{length, getD, drop, take, set}
-use lib.Ieee.{Float, nan, binary32, lt}
 use Rattle.spans.specs.Span.{sampleAt}
 use Rattle.rounding.specs.Rounding.{ceilF}
 use Rattle.rtplace.proofs.Laws.{sample-most}
 use Rattle.rtplace.proofs.inner.frame_behind.Statement.{statement}
 use Rattle.rtplace.proofs.inner.frame_behind.Tie as tie
-use Rattle.rtplace.proofs.inner.frame_behind.Reads as reads
-use Rattle.rtplace.proofs.inner.frame_behind.Lts as lts
-use Rattle.numeric.proofs.cast_sat.Reads as cast-sat-reads
-use Rattle.numeric.proofs.clamp.Reads as clamp-reads
-use Rattle.numeric.proofs.inner.of_index.Reads as of-index-reads
-use Rattle.rounding.proofs.ceil.Reads as ceil-reads
 
 sub-of-index : tie.Need-sub-of-index
 sub-of-index c = search needs

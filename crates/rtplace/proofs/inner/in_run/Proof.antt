@@ -1,19 +1,8 @@
-use mathlib.Core.Path.{_≡_, refl, sym, _∙_, ap, subst}
-use mathlib.Core.Bool.{Bool, true, false, cond}
-use mathlib.Core.List.{List, [], _∷_, _++_}
-use mathlib.Core.Logic.{⊎-elim}
-use Prim.Native.Nat.{ℕ, zero, suc, _≤_, _<_, _-_, _+_, _*_}
-use native.Mathlib.Omega.{arith}
+use Prim.Native.Nat.{_-_}
 use borrow.Author.Needs.{needs}
-use lib.Dec.{T, ltb, leb, eqb}
-use lib.ListN.{length, getD, drop, take, set}
-use lib.Ieee.{Float, nan, binary32, lt}
 use Rattle.rtplace.specs.Placed.{inRun}
 use Rattle.rtplace.proofs.inner.in_run.Statement.{statement}
 use Rattle.rtplace.proofs.inner.in_run.Tie as tie
-use Rattle.rtplace.proofs.inner.in_run.Reads as reads
-use Rattle.rtplace.proofs.inner.in_run.Lts as lts
-use Rattle.numeric.proofs.inner.of_index.Reads as of-index-reads
 
 of-index-requires : tie.Need-of-index-requires
 of-index-requires c κs = search needs
