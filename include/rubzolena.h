@@ -1,17 +1,17 @@
-/* Grid detection and stitching of Rubzolena, from the static library libcapi.a ('rt staticlib capi').
+/* Grid detection, stitching and the frame index of Rubzolena, from the static library librubzolena.a ('make library').
  *
  * A list is words of 32 bits; a float in it is the word of its IEEE 754 binary32 bit pattern. Grid detection takes its lists as
- * bytes, four a word, the lowest first, asks for no alignment, and counts a length in bytes. Stitching takes words, aligned as
- * uint32_t is, and counts a length in words. From 0 to a limit, for a float, means with a clear sign: minus zero, negative
- * values, infinities and NaNs are out of range.
+ * bytes, four a word, the lowest first, asks for no alignment, and counts a length in bytes. The other functions take words and
+ * floats, aligned as uint32_t and float are, and count a length in these. From 0 to a limit, for a float, means with a clear sign:
+ * minus zero, negative values, infinities and NaNs are out of range.
  *
  * Every value may be handed in: sizes, numbers and what the lists hold are all judged, and what cannot be worked through is
  * answered with a number (below). Pointers cannot be judged, so the caller answers for these:
  *   - each pointer is valid for as many bytes or words as its length says: for reading, and those that are not const for
  *     writing too;
  *   - NULL goes with length 0, and with no other;
- *   - a list that is written (`out`, and in stitching `owners`, `order`, `groups`, `keys` and `merged`) overlaps no other list.
- *     Lists that are only read may overlap one another;
+ *   - a list that is written (those whose pointer is not const) overlaps no other list. Lists that are only read may overlap one
+ *     another;
  *   - while a function runs nobody else writes to any of its lists, nor reads from those that are written.
  *
  * The functions keep nothing, allocate nothing and need less than 1 MiB of stack (some 0.5 MiB for rows of more than 1,024
@@ -33,19 +33,19 @@ extern "C" {
 #define RUBZOLENA_RECORD_WORDS 27
 
 /* The numbers, of which the lowest that applies is answered: 1 to 7, 20 and 22 by grid detection; 1, 2, 4, 8, 9, 20 and 21 by
- * stitching. 10 and 23 come from neither. */
+ * stitching; 1 to 5 and 20 to 22 by a frame's part of an index. */
 enum {
     RUBZOLENA_LENGTHS = 1,            /* lengths that must agree do not, a list is no whole words or records, or rows and num_bins differ */
-    RUBZOLENA_TOO_LARGE = 2,          /* more than 4,194,304 rows, 16,384 columns, or 65,536 peaks to stitch */
+    RUBZOLENA_TOO_LARGE = 2,          /* more than 4,194,304 rows, 16,384 columns, 65,536 peaks, or 16,777,216 points */
     RUBZOLENA_READING = 3,            /* a reading not from 0 to 2^32 */
     RUBZOLENA_PARAMETER = 4,          /* a parameter or a mobility out of range, reversed bounds, or identities that could run out */
-    RUBZOLENA_TOF_OR_SCAN = 5,        /* tof_min or tof_max above 4,194,303, or a scan above 65,535 */
+    RUBZOLENA_TOF_OR_SCAN = 5,        /* a TOF value of the scale or of a point above 4,194,303, or a scan above 65,535 */
     RUBZOLENA_WEIGHTS = 6,            /* weights of another form */
     RUBZOLENA_NOT_RISING = 7,         /* scans that do not strictly rise */
     RUBZOLENA_IDENTITY_TWICE = 8,     /* two peaks to stitch with one identity */
     RUBZOLENA_RECORD = 9,             /* a record with reversed bounds or a field out of range */
-    RUBZOLENA_LIST_TOO_SHORT = 20,    /* out, or owners, has less room than the sizes allow peaks */
-    RUBZOLENA_SCRATCH_TOO_SHORT = 21, /* scratch shorter than the list to stitch */
+    RUBZOLENA_LIST_TOO_SHORT = 20,    /* a list for results has less room than the sizes allow peaks, or than there are points */
+    RUBZOLENA_SCRATCH_TOO_SHORT = 21, /* scratch shorter than the list to stitch, or than there are points */
     RUBZOLENA_SCALE = 22              /* a scale whose numbers disagree */
 };
 
@@ -136,6 +136,52 @@ uint64_t rubzolena_stitch_im_peaks(
     uint32_t *groups, size_t groups_len,
     uint32_t *keys, size_t keys_len,
     uint32_t *merged, size_t merged_len);
+
+/* The points of a frame as its part of a frame index: those that have a bin, sorted by bin; points of one bin keep their order. n is
+ * the count of its points. A number in brackets is the one that is answered where the words before it do not hold.
+ *
+ * A frame index has the points of all frames of a run, frame after frame, in five lists:
+ *   bins      the distinct bins of each frame, rising within a frame
+ *   offsets   for each place of bins, the place of that bin's first point; behind the last one, the count of points
+ *   scans, readings   the absolute scan and the reading of each point
+ *   starts    for each frame, the place of its first bin; behind the last one, the count of bins
+ * This function writes the first four of one frame. A run is joined by calling it for one frame after another, with out_bins and
+ * out_offsets where the bins so far end, out_scans and out_readings where the points so far end, and base the count of these: the
+ * first offset of a frame is the last one of the frame before it. The caller keeps starts: 0, and after each frame the count of bins.
+ *
+ * tofs             the TOF value of each point, to 4,194,303 (5). Those below tof_min or above tof_max have no bin and leave no
+ *                  trace, but are judged like the others; so are the scans and readings beside them
+ * scans            the absolute scan of each point (1), to 65,535 (5)
+ * readings         the reading of each point (1), a float from 0 to 2^32 (3)
+ * tof_min, tof_max the lowest and the highest TOF of the scale, to 4,194,303 (5): multiples of tof_step, tof_max not below
+ *                  tof_min (22)
+ * tof_step         1 to 65,536 (4). A TOF value t has the bin (t - tof_min) / tof_step, divided without a rest
+ * num_bins         (tof_max - tof_min) / tof_step + 1 (22)
+ * global_num_scans the count of scans of the run, to 65,535 (4): scans from it on become the last one, global_num_scans - 1, and
+ *                  where it is 0 every scan becomes 0
+ * base             the count of points that the index has already; with n at most 16,777,216 (2)
+ * out_bins, out_scans, out_readings   room for n words or floats each (20)
+ * out_offsets      room for n + 1 words (20)
+ * keys, order, spare   scratch: n words each (21)
+ *
+ * Returns 64 times the count b of distinct bins. These then stand at the front of out_bins, and at the front of out_offsets b + 1
+ * offsets, counted from base: the last of them, out_offsets[b], is base and the count of points that have a bin, whose scans and
+ * readings stand at the front of out_scans and out_readings. Past that the four lists are as they were; scratch may have changed in
+ * its first n words, and nowhere else. Or returns, from 1 to 63, the number that says why nothing was done, and all seven written
+ * lists are as they were. 0 is a count of 0, and out_offsets[0] is then base. */
+uint64_t rubzolena_build_frame_bin_view(
+    const uint32_t *tofs, size_t tofs_len,
+    const uint32_t *scans, size_t scans_len,
+    const float *readings, size_t readings_len,
+    uint32_t tof_min, uint32_t tof_max, uint32_t tof_step, uint32_t num_bins,
+    uint32_t global_num_scans, size_t base,
+    uint32_t *out_bins, size_t out_bins_len,
+    uint32_t *out_offsets, size_t out_offsets_len,
+    uint32_t *out_scans, size_t out_scans_len,
+    float *out_readings, size_t out_readings_len,
+    uint32_t *keys, size_t keys_len,
+    uint32_t *order, size_t order_len,
+    uint32_t *spare, size_t spare_len);
 
 #ifdef __cplusplus
 }

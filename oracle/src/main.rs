@@ -6,6 +6,8 @@
 //! `oracle sample stitching [SEED TIMES]` prints those of `replay_stitching`.
 //! `oracle bench [WORD]` times both sides and prints ratios, of the lines with that word in their name.
 mod bench;
+mod frames_bench;
+mod frames_level;
 mod grid_level;
 mod inputs;
 mod leaves;
@@ -24,6 +26,12 @@ mod words;
 #[allow(dead_code, unused_imports, unused_variables)]
 mod cluster {
     include!(concat!(env!("OUT_DIR"), "/cluster.rs"));
+}
+
+/// The same with a sort by bin that keeps the order of the points of a bin.
+#[allow(dead_code, unused_imports, unused_variables)]
+mod stable {
+    include!(concat!(env!("OUT_DIR"), "/stable.rs"));
 }
 
 /// Counts comparisons, and prints the first differences.
@@ -55,13 +63,14 @@ fn main() {
         Some("compare") => {
             let count = words.get(2).map_or(1_000_000, |n| n.parse().expect("a count"));
             let word = words.get(3).map_or("", String::as_str);
-            let levels: [(&str, fn(&mut Tally, u64), u64); 6] = [
+            let levels: [(&str, fn(&mut Tally, u64), u64); 7] = [
                 ("leaves", leaves::compare, 1),
                 ("apexes", rows::compare, 1),
                 ("records", records::compare, 10),
                 ("rows", row_level::compare, 2),
                 ("grids", grid_level::compare, 10),
                 ("stitching", stitch_level::compare, 4),
+                ("frames", frames_level::compare, 4),
             ];
             let mut tally = Tally { compared: 0, differ: 0 };
             for (name, compare, fewer) in levels {

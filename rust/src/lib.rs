@@ -1,10 +1,12 @@
-//! Rubzolena's grid detection and stitching for Rust programs: safe functions over the C entries. Words and floats are handed
+//! Rubzolena's grid detection, stitching and frame index for Rust programs: safe functions over the C entries. Words and floats are handed
 //! over as they lie in memory, which is the byte rule of grid detection on a little-endian machine.
 #[cfg(not(target_endian = "little"))]
 compile_error!("the C entry takes little-endian words");
 
+mod frames;
 mod stitching;
 
+pub use frames::{build_frame_bin_view_into, Frame, FrameIndex, FrameRoom, FrameScratch};
 pub use stitching::{stitch, stitch_into, Scratch, StitchParams};
 
 use std::mem::size_of_val;

@@ -1,0 +1,2 @@
+-- Laws of the C entries.
+pub mod Laws

@@ -1,0 +1,2 @@
+// The frame index, marginals and retention traces as C functions on numbers and lists.
+pub mod view;
