@@ -1,0 +1,2 @@
+-- The definitions that the contracts of `rank` cite, what is proved of them, and worked cases.
+pub mod Rank
