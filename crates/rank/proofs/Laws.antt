@@ -12,6 +12,7 @@ use lib.ListN.{length, getD, drop, drop-of-length-le}
 use lib.Seq.{drop-cons}
 use Rattle.refusal.proofs.Bools.{clash}
 use Rattle.rank.specs.Rank.{counted, smaller, atMost, AtRank, firstAt, ranked, highestTo}
+use Rattle.rank.specs.RankLaws.{OneAtRank}
 
 -- ---- counts
 
@@ -64,7 +65,7 @@ pub high-same : (h : ℕ) (xs : List ℕ) → atMost (highestTo h xs) xs ≡ atM
 high-same h xs = between-same h (highestTo h xs) xs (omega arith) (high-le h xs)
 
 -- ---- one element at a rank
-pub one-at : (xs : List ℕ) (k v w : ℕ) → AtRank xs k v → AtRank xs k w → v ≡ w
+pub one-at : OneAtRank
 one-at xs k v w a b = go (ltb v w) refl (ltb w v) refl
   where
     go : (s : Bool) → ltb v w ≡ s → (t : Bool) → ltb w v ≡ t → v ≡ w

@@ -3,3 +3,4 @@ pub mod Laws
 pub mod Sorted
 pub mod Signs
 pub mod Lists
+pub mod Floats
