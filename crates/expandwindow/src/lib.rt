@@ -16,10 +16,10 @@ pub enum WindowAnswer {
 }
 
 // The lowest number that applies, or 0.
-fn number(record: &[u32], ids: &[u32], times: &[f32], e: RtExpandParams) -> u32
-    ensures { λ r. ⌜ r ≡ windowNumber (now (record .entry)) (now (ids .entry)) (now (times .entry)) e ⌝ }
+fn number(peak: &[u32], ids: &[u32], times: &[f32], e: RtExpandParams) -> u32
+    ensures { λ r. ⌜ r ≡ windowNumber (now (peak .entry)) (now (ids .entry)) (now (times .entry)) e ⌝ }
 {
-    if !((record.len() == ImPeak1D::WORDS) & (times.len() == ids.len())) {
+    if !((peak.len() == ImPeak1D::WORDS) & (times.len() == ids.len())) {
         return 1;
     }
     if ids.len() > limits::MAX_FRAMES {
@@ -32,7 +32,7 @@ fn number(record: &[u32], ids: &[u32], times: &[f32], e: RtExpandParams) -> u32
     if !(params::inner::is_rising(ids) & rttime::inner::never_falls(times)) {
         return 7;
     }
-    if !record::inner::all_sound(record, 1) {
+    if !record::inner::all_sound(peak, 1) {
         return 9;
     }
     0
@@ -41,19 +41,19 @@ fn number(record: &[u32], ids: &[u32], times: &[f32], e: RtExpandParams) -> u32
 // The padded frame window of the peak whose record is handed in, the first frame and the last by their places in the run, and the
 // sigma of its smoothing in frames; or that it has none. The weights that expansion is handed are made for this sigma.
 pub fn expand_im_peak_window(
-    record: &[u32],
+    peak: &[u32],
     ids: &[u32],
     times: &[f32],
     e: RtExpandParams,
 ) -> WindowAnswer
-    ensures { λ r. ⌜ windowSays r ≡ answerBy (windowNumber (now (record .entry)) (now (ids .entry)) (now (times .entry)) e)
-        (windowOf (now (ids .entry)) (now (times .entry)) e (peakAt (now (record .entry)) 0)) ⌝ }
+    ensures { λ r. ⌜ windowSays r ≡ answerBy (windowNumber (now (peak .entry)) (now (ids .entry)) (now (times .entry)) e)
+        (windowOf (now (ids .entry)) (now (times .entry)) e (peakAt (now (peak .entry)) 0)) ⌝ }
 {
-    let no = number(record, ids, times, e);
+    let no = number(peak, ids, times, e);
     if no != 0 {
         return WindowAnswer::Refused(no);
     }
-    let p = record::inner::peak_at(record, 0);
+    let p = record::inner::peak_at(peak, 0);
     let w = inner::window_of(ids, times, e, p);
     match w {
         RtWindow::Over(lo, hi, sigma) => WindowAnswer::Window(lo, hi, sigma),
