@@ -1,0 +1,2 @@
+-- What the proofs of `fallback` cite.
+pub mod Laws

@@ -1,0 +1,2 @@
+// The one retention peak of a trace that is not searched: about its highest reading.
+pub mod inner;
