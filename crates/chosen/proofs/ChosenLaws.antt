@@ -5,8 +5,9 @@ use mathlib.Core.List.{List, [], _∷_, _++_, append-assoc, append-nil}
 use mathlib.Core.List.{List·Memᴰ, List·Memᴰ·not-nil, List·Memᴰ·cases-cons, List·Memᴰ·append-cases, List·Memᴰ·eq-of-singleton}
 use mathlib.Core.List.{List·Memᴰ·head as here, List·Memᴰ·tail as there, Memᴰ·append-left, Memᴰ·append-right}
 use mathlib.Core.Logic.{_⊎_, inl, inr, ⊎-elim, _↔_, _≢_}
-use Prim.Native.Nat.{ℕ, suc, _<_}
-use lib.ListN.{length, getD, take}
+use Prim.Native.Nat.{ℕ, suc, _+_, _≤_, _<_}
+use native.Mathlib.Omega.{arith}
+use lib.ListN.{length, getD, take, length-append}
 use lib.Seq.{take-suc}
 use Rattle.refusal.proofs.Bools.{clash}
 use Rattle.rowsearch.specs.Account.{_∈_, All}
@@ -159,6 +160,23 @@ module _ (near : ℕ → ℕ → Bool) where
   pub chosen-each : (R : ℕ → ℕ → Type 0) (order : List ℕ) → Each R order → Each R (chosen near order)
   chosen-each R order g = chooseAll-each R [] order tt (all-none (λ k. All (R k) order)) g
 
+  -- what holds of all apexes of an order holds of those chosen
+  pub chosen-all : (P : ℕ → Type 0) (order : List ℕ) → All P order → All P (chosen near order)
+  chosen-all P order f = chooseAll-all P [] order (all-none P) f
+
+  -- no more are chosen than there are
+  pub chosen-few : (order : List ℕ) → length (chosen near order) ≤ length order
+  unfolding chooseAll
+  chosen-few order = go [] order
+    where
+      go : (ks is : List ℕ) → length (chooseAll near ks is) ≤ length ks + length is
+      go ks [] = omega arith
+      go ks (i ∷ is) =
+          let one : length (choose near ks i) ≤ suc (length ks) =
+          choose-ways (λ l. length l ≤ suc (length ks)) ks i (λ h. omega arith) (λ h. simp length-append (omega arith)) in
+          let all = go (choose near ks i) is in
+          omega arith
+
   -- where no two are near, as with a least separation of 0, all are chosen
   pub all-chosen : ((i j : ℕ) → near i j ≡ false) → (order : List ℕ) → chosen near order ≡ order
   unfolding chooseAll nearAny
@@ -175,7 +193,27 @@ module _ (near : ℕ → ℕ → Bool) where
 -- ---- those that pass
 
 module _ (test : ℕ → Bool) where
-  passing-are : (l : List ℕ) (i : ℕ) → i ∈ passing test l → (i ∈ l) × (test i ≡ true)
+  -- no more pass than there are
+  pub passing-few : (l : List ℕ) → length (passing test l) ≤ length l
+  unfolding passing
+  passing-few [] = omega arith
+  passing-few (j ∷ l) = go (test j) (passing-few l)
+    where
+      go : (b : Bool) → length (passing test l) ≤ length l → length (cond b (j ∷ passing test l) (passing test l)) ≤ suc (length l)
+      go true h = omega arith
+      go false h = omega arith
+
+  pub passing-append : (a b : List ℕ) → passing test (a ++ b) ≡ passing test a ++ passing test b
+  unfolding passing
+  passing-append [] b = refl
+  passing-append (j ∷ a) b = go (test j) (passing-append a b)
+    where
+      go : (c : Bool) → passing test (a ++ b) ≡ passing test a ++ passing test b
+          → cond c (j ∷ passing test (a ++ b)) (passing test (a ++ b)) ≡ cond c (j ∷ passing test a) (passing test a) ++ passing test b
+      go true h = ap (λ (l : List ℕ). j ∷ l) h
+      go false h = h
+
+  pub passing-are : (l : List ℕ) (i : ℕ) → i ∈ passing test l → (i ∈ l) × (test i ≡ true)
   unfolding passing
   passing-are [] i m = absurd (List·Memᴰ·not-nil m)
   passing-are (j ∷ l) i m = go (test j) refl (passing-are l i) m
@@ -184,7 +222,7 @@ module _ (test : ℕ → Bool) where
       go true e f m = ⊎-elim (λ (q : i ≡ j). (here q, rw q e)) (λ n. (there (f n .0), f n .1)) (List·Memᴰ·cases-cons m)
       go false e f m = (there (f m .0), f m .1)
 
-  passing-has : (l : List ℕ) (i : ℕ) → i ∈ l → test i ≡ true → i ∈ passing test l
+  pub passing-has : (l : List ℕ) (i : ℕ) → i ∈ l → test i ≡ true → i ∈ passing test l
   unfolding passing
   passing-has [] i m h = absurd (List·Memᴰ·not-nil m)
   passing-has (j ∷ l) i m h = go (test j) refl (λ n. passing-has l i n h) (List·Memᴰ·cases-cons m)
@@ -219,7 +257,7 @@ two-ways R (k ∷ l) e i j m n d = go (two-ways R l (e .1) i j) (List·Memᴰ·c
 
 module _ (near noLower : ℕ → ℕ → Bool) (share : ℕ → Bool) (order : List ℕ) (ranked : Ranked near noLower order) where
   some : All (λ i. i ∈ order) (chosen near order)
-  some = chooseAll-all near (λ i. i ∈ order) [] order (all-none (λ i. i ∈ order)) (λ i m. m)
+  some = chosen-all near (λ i. i ∈ order) order (λ i m. m)
 
   apart : (i j : ℕ) → i ∈ chosen near order → j ∈ chosen near order → i ≢ j → near i j ≡ false
   apart i j m n d =

@@ -1,0 +1,2 @@
+-- The definitions that the contracts of `rtapex` cite, and worked cases.
+pub mod InTime
