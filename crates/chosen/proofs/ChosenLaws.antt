@@ -167,7 +167,7 @@ module _ (near : ℕ → ℕ → Bool) where
   -- no more are chosen than there are
   pub chosen-few : (order : List ℕ) → length (chosen near order) ≤ length order
   unfolding chooseAll
-  chosen-few order = go [] order
+  chosen-few order = let all = go [] order in omega arith
     where
       go : (ks is : List ℕ) → length (chooseAll near ks is) ≤ length ks + length is
       go ks [] = omega arith

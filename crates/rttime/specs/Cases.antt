@@ -1,10 +1,11 @@
 -- Worked cases, by computation; they need not be read to know what is promised.
 use mathlib.Core.Path.{_≡_, refl}
+use mathlib.Core.Bool.{true, false}
 use mathlib.Core.List.{List, [], _∷_, map}
 use Prim.Native.Nat.{ℕ}
 use lib.Ieee.{Float, nan, binary32, ofBits, toBits, ofInt, neg, add, sub, mul, lt, le, toUnsigned}
 use Rattle.numeric.specs.Arith.{indexF, 𝟎, ½, 𝟏}
-use Rattle.rttime.specs.Time.{timeBetween, timeAt}
+use Rattle.rttime.specs.Time.{timeBetween, timeAt, neverFallsFrom, neverFalls}
 
 abbrev axis : List Float
 axis = map indexF (10 ∷ 20 ∷ 24 ∷ [])
@@ -40,3 +41,12 @@ behind = refl
 outside : toBits binary32 (timeAt (ofBits binary32 0x409c_cccd ∷ ofBits binary32 0x409c_cccd ∷ []) (ofBits binary32 0x3dcc_cccd)) ≡ 0x409c_cccc
 unfolding timeAt timeBetween add sub mul lt le ofInt ofBits toBits toUnsigned
 outside = refl
+
+-- equal times do not fall, and a fall at the end is one
+level : neverFalls (map indexF (3 ∷ 5 ∷ 5 ∷ [])) ≡ true
+unfolding neverFalls neverFallsFrom lt ofInt
+level = refl
+
+fall : neverFalls (map indexF (3 ∷ 5 ∷ 4 ∷ [])) ≡ false
+unfolding neverFalls neverFallsFrom lt ofInt
+fall = refl

@@ -3,7 +3,7 @@ ghost use mathlib.Core.Path.{_≡_};
 ghost use Prim.Native.Nat.{_≤_, _<_, min};
 ghost use lib.ListN.{length};
 ghost use Rattle.limits.specs.Limits.{exactIndex};
-ghost use Rattle.rttime.specs.Time.{timeBetween, timeAt};
+ghost use Rattle.rttime.specs.Time.{timeBetween, timeAt, neverFalls};
 
 // The smaller of two indices.
 pub fn smaller(a: usize, b: usize) -> usize
@@ -38,4 +38,18 @@ pub fn t_at_index_frac(t: &[f32], x: f32) -> f32
     }
     let j = smaller(numeric::cast_sat(x) as usize, last);
     time_between(t, j, x - numeric::inner::of_index(j))
+}
+
+// Whether no time lies below the one before it: number 7 does not apply to such an axis.
+pub fn never_falls(t: &[f32]) -> bool
+    ensures { λ r. ⌜ r ≡ neverFalls (now (t .entry)) ⌝ }
+{
+    if t.len() == 0 {
+        return true;
+    }
+    let mut all = true;
+    for i in 1..t.len() {
+        all = all & !(t[i] < t[i - 1]);
+    }
+    all
 }

@@ -1,0 +1,2 @@
+-- What the proofs of `rttime` cite.
+pub mod Laws
