@@ -1,9 +1,13 @@
 // Steps over an apex of a trace that the caller has checked.
+use rowsearch::inner::Measured;
+use rtrecord::RtApex;
+use rtrecord::RtLocalPeak;
 ghost use mathlib.Core.Path.{_≡_};
 ghost use Prim.Native.Nat.{_≤_, _<_, _+_};
 ghost use lib.ListN.{length};
 ghost use Rattle.limits.specs.Limits.{exactIndex};
-ghost use Rattle.rtapex.specs.InTime.{subframe, apexTime, secondsOf};
+ghost use Rattle.rtapex.specs.InTime.{subframe, apexTime, secondsOf, localPeakOf};
+ghost use Rattle.rtapex.specs.Steps.{Inside};
 
 // When an apex starts and ends, and how long it lasts.
 pub struct Seconds {
@@ -42,5 +46,33 @@ pub fn seconds_of(t: &[f32], n: usize, left_x: f32, right_x: f32) -> Seconds
         left,
         right,
         width: numeric::max(right - left, 0.0),
+    }
+}
+
+// The peak of an apex, by what is measured of it.
+pub fn local_peak_of(y: &[f32], z: &[f32], t: &[f32], a: Measured) -> RtLocalPeak
+    requires { ⌜ Inside (now y) (now z) (now t) a ⌝ }
+    ensures { λ r. ⌜ r ≡ localPeakOf (now (y .entry)) (now (z .entry)) (now (t .entry)) (a .index) ⌝ }
+{
+    let i = a.index;
+    let sub = subframe_of(y, i);
+    let s = seconds_of(t, y.len(), a.left_x, a.right_x);
+    let apex = RtApex {
+        rt_idx: i as u32,
+        rt_sec: rttime::inner::t_at_index_frac(t, numeric::inner::of_index(i) + sub),
+        apex_smoothed: y[i],
+        apex_raw: z[i],
+        prominence: a.prominence,
+        left_x: a.left_x,
+        right_x: a.right_x,
+        width_frames: a.width,
+        area_raw: a.area,
+        subframe: sub,
+    };
+    RtLocalPeak {
+        apex,
+        left_sec: s.left,
+        right_sec: s.right,
+        width_sec: s.width,
     }
 }

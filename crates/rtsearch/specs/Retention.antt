@@ -1,18 +1,19 @@
 -- Which apexes of a retention trace are listed, and in which order: y is the smoothed trace, z the raw one, t the times, one a
 -- frame. An apex is the index of its frame.
 use mathlib.Core.Bool.{Bool, not, _&&_}
-use mathlib.Core.List.{List, [], _∷_}
+use mathlib.Core.List.{List, [], _∷_, map}
 use Prim.Native.Nat.{ℕ, _-_}
 use lib.Dec.{ltb}
 use lib.ListN.{length}
 use lib.Ieee.{Float, binary32, lt, le, ofBits}
-use Rattle.numeric.specs.Arith.{_⊘_, 𝟎, indexF, at}
-use Rattle.numeric.specs.Numeric.{maxF, minF}
+use Rattle.numeric.specs.Arith.{_⊘_, 𝟎, at}
+use Rattle.numeric.specs.Numeric.{maxF}
 use Rattle.numeric.specs.Plain.{word}
-use Rattle.area.specs.Area.{whole, areaF}
+use Rattle.area.specs.Area.{whole}
 use Rattle.params.specs.declared.ImDetectParams.{ImDetectParams}
-use Rattle.rowsearch.specs.Qualifying.{leftX, rightX, qualifying}
-use Rattle.rtapex.specs.InTime.{apexTime, seconds}
+use Rattle.rowsearch.specs.Qualifying.{qualifying}
+use Rattle.rtrecord.specs.declared.RtLocalPeak.{RtLocalPeak}
+use Rattle.rtapex.specs.InTime.{apexTime, seconds, apexArea, localPeakOf}
 use Rattle.chosen.specs.Chosen.{chosen, passing}
 use Rattle.chosen.specs.Ranking.{before, orderedBy}
 use Rattle.chosen.specs.Times.{nearInTime}
@@ -62,10 +63,6 @@ chosenApexes floor sep minWidth y z t = chosen (nearInTime (apexTime y t) sep) (
 
 -- ---- shares
 
--- the raw area of an apex between its crossings
-unfoldable pub apexArea : List Float → List Float → ℕ → Float
-apexArea y z i = areaF z (maxF (leftX y i) 𝟎) (minF (rightX y i) (indexF (length y - 1)))
-
 -- the raw area of the trace: all its segments, the last one too
 unfoldable pub totalArea : List Float → Float
 totalArea z = whole z (length z - 1) 0 𝟎
@@ -107,3 +104,7 @@ hasShares y z cs i = meetsShares (traceArea z) (bestArea (apexArea y z) cs) (ape
 unfoldable pub listedApexes : Float → Float → Float → List Float → List Float → List Float → List ℕ
 listedApexes floor sep minWidth y z t =
     let cs = chosenApexes floor sep minWidth y z t in orderedBy (earlierFirst y t) (passing (hasShares y z cs) cs)
+
+-- Their peaks. There are none where the trace has fewer than 3 frames, or where its raw maximum does not reach the floor.
+unfoldable pub rtPeaks : Float → Float → Float → List Float → List Float → List Float → List RtLocalPeak
+rtPeaks floor sep minWidth y z t = map (localPeakOf y z t) (listedApexes floor sep minWidth y z t)

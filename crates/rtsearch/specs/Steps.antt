@@ -13,7 +13,7 @@ use Rattle.params.specs.Params.{mostPeaks}
 use Rattle.rowsearch.specs.Found.{foundSize, measuredOf, measuredAt, Room}
 use Rattle.rowsearch.specs.declared.inner.Measured.{Measured}
 use Rattle.rtapex.specs.InTime.{apexTime, secondsOf}
-use Rattle.digits.specs.Sorted.{sortedBy}
+use Rattle.digits.specs.Sorted.{upTo, sortedBy}
 use Rattle.chosen.specs.Chosen.{chosen, passing}
 use Rattle.chosen.specs.Times.{nearInTime}
 use Rattle.rtsearch.specs.Retention.{traceArea, bestArea, meetsShares, listedApexes}
@@ -80,13 +80,22 @@ byHeight y found p = heightWord y found p ∷ []
 abbrev pub byTime : List Float → List Float → List ℕ → ℕ → List ℕ
 byTime y t found p = word (timeAtPlace y t found p) ∷ []
 
--- the places chosen from those of ps, by falling height
+-- the places chosen from some, by falling height
 unfoldable pub chosenPlaces : Float → List Float → List Float → List ℕ → List ℕ → List ℕ
 chosenPlaces sep y t found ps = chosen (nearInTime (timeAtPlace y t found) sep) (sortedBy (byHeight y found) ps)
 
--- those of them that meet both shares, by time
-unfoldable pub listedPlaces : List Float → List Float → List Float → List ℕ → List ℕ → List ℕ
-listedPlaces y z t found cs = sortedBy (byTime y t found) (passing (λ p. meetsShares (traceArea z) (bestArea (areaAt found) cs) (areaAt found p)) cs)
+-- whether the area at a place meets both shares
+abbrev pub sharesAt : Float → Float → List ℕ → ℕ → Bool
+sharesAt trace best found p = meetsShares trace best (areaAt found p)
+
+-- those of chosen places that meet both
+unfoldable pub withShares : List Float → List ℕ → List ℕ → List ℕ
+withShares z found cs = passing (sharesAt (traceArea z) (bestArea (areaAt found) cs) found) cs
+
+-- the places that are listed of the first m, by time
+unfoldable pub listedPlaces : Float → Float → List Float → List Float → List Float → List ℕ → ℕ → List ℕ
+listedPlaces sep minWidth y z t found m =
+    sortedBy (byTime y t found) (withShares z found (chosenPlaces sep y t found (passing (wideAt found t (length y) minWidth) (upTo m))))
 
 -- the first k of an order are places of m apexes, and there is room for tables of these
 pub record Choosable (n times : ℕ) (found : List ℕ) (m k turns bases : ℕ) (order : List ℕ) : Type 0 where
