@@ -1,0 +1,3 @@
+-- The definitions that the contracts of `rtsearch` cite.
+pub mod Retention
+pub mod Steps
