@@ -1,2 +1,4 @@
 -- What the proofs of functions cite.
 pub mod Laws
+pub mod Orders
+pub mod Listed

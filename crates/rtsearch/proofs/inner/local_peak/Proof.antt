@@ -8,6 +8,9 @@ use borrow.Author.Needs.{needs}
 use lib.Dec.{T, ltb, leb, eqb}
 use lib.ListN.{length, getD, drop, take, set}
 use lib.Ieee.{Float, nan, binary32, lt}
+use Rattle.rowsearch.specs.Found.{measuredAt}
+use Rattle.rtapex.specs.InTime.{localPeakOf}
+use Rattle.rtsearch.proofs.Listed.{read-index, read-whole}
 use Rattle.rtsearch.proofs.inner.local_peak.Statement.{statement}
 use Rattle.rtsearch.proofs.inner.local_peak.Tie as tie
 use Rattle.rtsearch.proofs.inner.local_peak.Reads as reads
@@ -30,15 +33,22 @@ index-of-requires c κs = search needs
 
 -- src/inner.rt:321:9
 measured-at-requires : tie.Need-measured-at-requires
-measured-at-requires c κs = search needs
+measured-at-requires c κs = let s = c .before .before .before .before .before .before .before in omega (arith, c .index-of .ensures, s .pre .1 .inside .room)
 
 -- src/inner.rt:322:5
 local-peak-of-requires : tie.Need-local-peak-of-requires
-local-peak-of-requires c κs = ?
+local-peak-of-requires c κs = let s = c .before .before .before .before .before .before .before .before in
+    let x = s .args in
+    let e = c .measured-at .ensures ∙ ap (measuredAt (x .found .now)) (c .before .index-of .ensures) in
+    read-whole (x .found .now) (getD (x .order .now) (x .k) 0) (c .measured-at .result) e (x .y .now) (x .z .now) (x .t .now) (s .pre .1) (s .pre .2) (s .pre .3) (s .pre .4)
 
 -- src/inner.rt:309:1
 returns : tie.Need-returns
-returns c = ?
+returns c = let a = c .before in
+    let s = a .before .before .before .before .before .before .before .before in
+    let x = s .args in
+    let e = a .measured-at .ensures ∙ ap (measuredAt (x .found .now)) (a .before .index-of .ensures) in
+    c .local-peak-of .ensures ∙ ap (localPeakOf (x .y .now) (x .z .now) (x .t .now)) (read-index (x .found .now) (getD (x .order .now) (x .k) 0) (a .measured-at .result) e)
 
 pub local-peak-spec : {M : Type 1} → statement M
 local-peak-spec =
