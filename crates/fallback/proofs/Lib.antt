@@ -1,2 +1,3 @@
--- What the proofs of `fallback` cite.
+-- The proofs of what specs/ states, and what the proofs of functions cite.
 pub mod Laws
+pub mod FallbackNumberLaws

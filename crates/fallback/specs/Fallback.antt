@@ -56,8 +56,7 @@ unfoldable pub timeOf : List Float → ℕ → Float → Float
 timeOf t i sub = let j = min i (length t - 1) in timeBetween t j (clampF (sub ⊕ indexF i ⊖ indexF j) 𝟎 𝟏)
 
 -- The apex, from the highest reading of the trace y and the span at the threshold. The prominence is the rise above the least
--- reading. The trace is not smoothed here, so that both heights are
--- the same.
+-- reading. The trace is not smoothed, so that both heights are the same.
 unfoldable pub apexOf : List Float → List Float → Top → Span → RtApex
 apexOf y t top s =
     let mu = centroid y (top .place) in
@@ -99,10 +98,10 @@ boundsOf ids p left right =
 
 -- ---- the peak
 
--- of the trace y of the mobility peak p, with frame numbers, times and an identity: the span is that at the share `frac` of the
--- height (spans/specs/Span.antt). Where the trace does not fall so far, its last two readings are continued by a line
--- (`leftCrossing` in apex/specs/Apex.antt), so that an end can lie outside of the trace, or on the wrong side. No peak where no reading is
--- above 0.
+-- of the trace y of the mobility peak p, with frame numbers, times and an identity. The span is that at the share `frac` of the
+-- height (spans/specs/Span.antt). Where the trace does not fall so far, the line through its two outermost readings on that side
+-- is continued (`leftCrossing` in apex/specs/Apex.antt), so that an end can lie outside of the trace, or on the wrong side of the
+-- other end. There is no peak where no reading is above 0.
 unfoldable pub fallbackOf : List Float → List ℕ → List Float → ImPeak1D → Float → ℕ → Fallback
 fallbackOf y ids t p frac id =
     let top = topOf y in
