@@ -15,7 +15,9 @@ use Rattle.numeric.specs.Arith.{_⊕_, 𝟎, at}
 use Rattle.digits.specs.Sorted.{upTo}
 use Rattle.digits.proofs.UpTo.{upto-length}
 use Rattle.frameindex.specs.FrameIndex.{Index, climbsTo, points}
+use Rattle.frameindex.specs.declared.numbers.Further.{Further}
 use Rattle.frameindex.proofs.Laws.{climbs-up, climbs-most, frame-up, sound-parts}
+use Rattle.frameindex.proofs.IndexNumberLaws.{Accepted}
 use Rattle.framesums.specs.declared.inner.Window.{Window}
 use Rattle.framesums.specs.Sums.{inBins, inScans, addPoints, addBins, addFrame, frameSums}
 use Rattle.framesums.specs.Steps.{Checked, Rising, FirstAt, withScans, PointsOf}
@@ -220,6 +222,10 @@ module _ (bins : List ℕ) (from to x : ℕ) (rise : Rising bins from to) where
       go true t = let e : j ≡ i = eqb-true j i t in rw e h
       go false t = let n = eqb-false j i t in l j a (omega arith)
 
+-- an index that no number of a call refuses
+pub checked : (ix : Index) (f : Further) → Accepted ix f → Checked ix
+checked ix f a = record { sound = a .sound; offsets = a .offsets; readings = sym (a .readings) }
+
 -- ---- a frame of a checked index
 module _ (ix : Index) (ck : Checked ix) (f : ℕ) (l : f + 1 < length (ix .starts)) where
   abbrev starts-climb : climbsTo (length (ix .bins)) (ix .starts) ≡ true
@@ -284,7 +290,7 @@ module _ (ix : Index) (w : Window) (f : ℕ) where
   unfolding frameSums upTo
   sums-none = refl
 
-  sums-length : (k : ℕ) → length (frameSums ix w f k) ≡ k
+  pub sums-length : (k : ℕ) → length (frameSums ix w f k) ≡ k
   unfolding frameSums
   sums-length k = length-map (upTo k) (λ i. addFrame ix w (f + i) 𝟎) ∙ upto-length k
 

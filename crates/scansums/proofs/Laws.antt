@@ -6,12 +6,13 @@ use Prim.Native.Nat.{ℕ, zero, suc, _≤_, _<_, _+_, _-_}
 use native.Mathlib.Omega.{arith}
 use borrow.Author.Tests.{le-leb, lt-leb, leb-true, ltb-true, ltb-false, eqb-true, eqb-false}
 use lib.Dec.{leb, ltb, eqb}
-use lib.ListN.{length, getD, take, drop, set, length-set, take-append-drop}
+use lib.ListN.{length, getD, take, drop, set, length-set, take-append-drop, length-map}
 use lib.Seq.{take-suc, getD-set-same, getD-set-other, drop-set-lt, drop-drop}
 use lib.Ieee.{Float, nan}
 use Rattle.refusal.proofs.Bools.{clash, both, and-false}
 use Rattle.numeric.specs.Arith.{_⊕_, 𝟎, at}
 use Rattle.digits.specs.Sorted.{upTo}
+use Rattle.digits.proofs.UpTo.{upto-length}
 use Rattle.frameindex.specs.FrameIndex.{Index}
 use Rattle.framesums.specs.declared.inner.Window.{Window}
 use Rattle.framesums.specs.declared.inner.Span.{Span}
@@ -126,6 +127,10 @@ module _ (ix : Index) (w : Window) (a b : ℕ) (old : List Float) where
       out-of i l e = clash (inScans w s) (rw (le-leb (w .«scan_lo») s (omega arith), le-leb s (w .«scan_hi») (omega arith))) t
 
 -- ---- frames
+
+pub sums-length : (ix : Index) (w : Window) (f n : ℕ) → length (scanSums ix w f n) ≡ scansOf w
+unfolding scanSums
+sums-length ix w f n = length-map (upTo (scansOf w)) (λ k. addFrames ix (atScan w (w .«scan_lo» + k)) n f 𝟎) ∙ upto-length (scansOf w)
 
 frames-step : (ix : Index) (w : Window) (f n g : ℕ) (so : Float) → g < n
     → addFrames ix w (n - g) (f + g) so ≡ addFrames ix w (n - (g + 1)) (f + (g + 1)) (addFrame ix w (f + g) so)
