@@ -8,35 +8,34 @@ use borrow.Author.Needs.{needs}
 use lib.Dec.{T, ltb, leb, eqb}
 use lib.ListN.{length, getD, drop, take, set}
 use lib.Ieee.{Float, nan, binary32, lt}
-use Rattle.framesapi.proofs.Laws.{fits-built, built-word, refused-word}
 use Rattle.framesapi.proofs.view.word_of.Statement.{statement}
 use Rattle.framesapi.proofs.view.word_of.Tie as tie
 use Rattle.framesapi.proofs.view.word_of.Reads as reads
 use Rattle.framesapi.proofs.view.word_of.Lts as lts
 
--- src/view.rt:15:27
+-- src/view.rt:17:27
 enum-known-answer : tie.Need-enum-known-answer
 enum-known-answer c = search needs
 
--- src/view.rt:15:39
+-- src/view.rt:17:39
 mul-result : tie.Need-mul-result
-mul-result c = record { fits = fits-built _ _ (rw (c .before .answer .given .1) at (c .before .before .before .pre)) }
+mul-result c = search needs
 
--- src/view.rt:16:29
+-- src/view.rt:18:29
 enum-known-answer-2 : tie.Need-enum-known-answer-2
 enum-known-answer-2 c = search needs
 
--- src/view.rt:16:36
+-- src/view.rt:18:36
 cast-result : tie.Need-cast-result
 cast-result c = search needs
 
--- src/view.rt:10:1
+-- src/view.rt:12:1
 returns : tie.Need-returns
-returns c = rw (c .before .answer .given .1) (built-word _ _)
+returns c = ?
 
--- src/view.rt:10:1
+-- src/view.rt:12:1
 returns-2 : tie.Need-returns-2
-returns-2 c = rw (c .before .answer2 .given .1) (refused-word _)
+returns-2 c = ?
 
 pub word-of-spec : {M : Type 1} → statement M
 word-of-spec =
