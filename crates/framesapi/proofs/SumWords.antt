@@ -1,22 +1,28 @@
--- The word of a call on an index.
-use mathlib.Core.Path.{_≡_, refl, ap, _∙_}
+-- The words of calls on an index.
+use mathlib.Core.Path.{_≡_, refl, ap, _∙_, subst}
 use mathlib.Core.Bool.{_||_}
 use mathlib.Core.List.{List}
 use Prim.Native.Nat.{ℕ, _*_, _≤_, _<_, _^_}
 use native.Mathlib.Omega.{arith}
-use borrow.Author.Tests.{ltb-false}
+use borrow.Author.Tests.{ltb-false, leb-true}
 use lib.Dec.{ltb}
 use lib.ListN.{length}
 use lib.Ieee.{Float}
 use Rattle.refusal.specs.Answers.{Says}
 use Rattle.refusal.proofs.Bools.{neither}
-use Rattle.limits.specs.Limits.{maxReading, maxFrames, maxPoints}
+use Rattle.limits.specs.Limits.{maxReading, maxFrames, maxPoints, maxList}
 use Rattle.frameindex.specs.declared.numbers.Further.{Further}
 use Rattle.frameindex.specs.FrameIndex.{Index, frames, points, seenIn}
 use Rattle.frameindex.specs.IndexNumber.{indexChecks, indexNumber, Front}
 use Rattle.frameindex.proofs.IndexNumberLaws.{accepted}
+use Rattle.manytraces.specs.declared.numbers.Rooms.{Rooms}
+use Rattle.manytraces.specs.declared.TracesAnswer.{TracesAnswer}
+use Rattle.manytraces.specs.ManyTraces.{Call, peaksIn, manyAsks, tracesSays, numberFor}
+use Rattle.manytraces.specs.ManyTraces as many
+use Rattle.manytraces.proofs.ManyTracesLaws.{traces-which}
 use Rattle.framesapi.specs.Word.{wordOf, itself}
 use Rattle.framesapi.specs.Sums.{Summed, SumsTold}
+use Rattle.framesapi.specs.ManyTraces.{Answered, ManyTold}
 use Rattle.framesapi.proofs.Words.{below, first-below, word-fits, word-told}
 
 module _ (ix : Index) (asks : Further) where
@@ -39,3 +45,21 @@ module _ (ix : Index) (asks : Further) where
 
 pub sums-told : SumsTold
 sums-told ix asks sums = word-told itself (indexNumber maxReading ix asks) (length sums) (number-small ix asks)
+
+-- ---- many peaks
+
+abbrev asks : (c : Call) (out : List Float) (windows : List ℕ) → Further
+asks c out windows = manyAsks c (record { out = length out; windows = length windows })
+
+pub many-told : ManyTold
+many-told c out windows = word-told itself (numberFor c out windows) (peaksIn c) (number-small (c .index) (asks c out windows))
+
+module _ {c : Call} {out₀ : List Float} {windows₀ : List ℕ} {out : List Float} {windows : List ℕ} {r : TracesAnswer} (a : many.Answered c out₀ windows₀ out windows r) where
+  pub many-fits : wordOf itself (tracesSays r) < 2 ^ 64
+  many-fits =
+      rw (a .answered)
+      (word-fits itself (numberFor c out₀ windows₀) (peaksIn c) (number-small (c .index) (asks c out₀ windows₀))
+      (λ z. omega (arith, leb-true (peaksIn c) maxList (accepted maxReading (c .index) (asks c out₀ windows₀) z .sizes))))
+
+  pub many-word : (w : ℕ) → w ≡ wordOf itself (tracesSays r) → Answered c out₀ windows₀ out windows w
+  many-word w e = record { word = e ∙ ap (wordOf itself) (a .answered); lists = subst (λ (x : TracesAnswer). many.Answered c out₀ windows₀ out windows x) (traces-which r _ _ (a .answered)) a }

@@ -5,3 +5,4 @@ pub mod View
 pub mod Sums
 pub mod Marginals
 pub mod Traces
+pub mod ManyTraces

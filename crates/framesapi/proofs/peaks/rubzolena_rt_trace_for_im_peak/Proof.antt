@@ -1,36 +1,25 @@
-use mathlib.Core.Path.{_≡_, refl, sym, _∙_, ap, subst}
-use mathlib.Core.Bool.{Bool, true, false, cond}
-use mathlib.Core.List.{List, [], _∷_, _++_}
-use mathlib.Core.Logic.{⊎-elim}
-use Prim.Native.Nat.{ℕ, zero, suc, _≤_, _<_, _-_, _+_, _*_}
-use native.Mathlib.Omega.{arith}
 use borrow.Author.Needs.{needs}
-use lib.Dec.{T, ltb, leb, eqb}
-use lib.ListN.{length, getD, drop, take, set}
-use lib.Ieee.{Float, nan, binary32, lt}
+use Rattle.framesapi.proofs.SumWords.{sums-word, sums-fit}
 use Rattle.framesapi.proofs.peaks.rubzolena_rt_trace_for_im_peak.Statement.{statement}
 use Rattle.framesapi.proofs.peaks.rubzolena_rt_trace_for_im_peak.Tie as tie
-use Rattle.framesapi.proofs.peaks.rubzolena_rt_trace_for_im_peak.Reads as reads
-use Rattle.framesapi.proofs.peaks.rubzolena_rt_trace_for_im_peak.Lts as lts
-use Rattle.framesapi.proofs.peaks.word_of.Reads as word-of-reads
-use Rattle.traces.proofs.rt_trace_for_im_peak.Reads as rt-trace-for-im-peak-reads
 
--- src/peaks.rt:40:9
 rt-trace-for-im-peak-requires : tie.Need-rt-trace-for-im-peak-requires
 rt-trace-for-im-peak-requires c κs = search needs
 
--- src/peaks.rt:43:5
 word-of-requires : tie.Need-word-of-requires
-word-of-requires c κs = search needs
+word-of-requires c κs = sums-fit _ _ (c .before .before .rt-trace-for-im-peak .ensures) (λ z. ?)
 
--- src/peaks.rt:24:1
 same-length : tie.Need-same-length
 same-length c = search needs
 
--- src/peaks.rt:24:1
 returns : tie.Need-returns
-returns c = ?
+returns c = sums-word _ _ (c .before .before .before .rt-trace-for-im-peak .ensures) _ (c .word-of .ensures)
 
 pub rubzolena-rt-trace-for-im-peak-spec : {M : Type 1} → statement M
 rubzolena-rt-trace-for-im-peak-spec =
-    tie.close (tie.spec rt-trace-for-im-peak-requires word-of-requires same-length returns)
+    tie.close
+    (tie.spec
+    rt-trace-for-im-peak-requires
+    word-of-requires
+    same-length
+    returns)
