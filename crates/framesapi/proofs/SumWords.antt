@@ -4,18 +4,23 @@ use mathlib.Core.Bool.{_||_}
 use mathlib.Core.List.{List}
 use Prim.Native.Nat.{ℕ, _*_, _≤_, _<_, _^_}
 use native.Mathlib.Omega.{arith}
-use borrow.Author.Tests.{ltb-false, leb-true}
-use lib.Dec.{ltb}
+use borrow.Author.Tests.{ltb-false, ltb-true, leb-true}
+use lib.Dec.{ltb, leb}
 use lib.ListN.{length}
 use lib.Ieee.{Float}
 use Rattle.refusal.specs.Answers.{Says}
-use Rattle.refusal.proofs.Bools.{neither}
-use Rattle.limits.specs.Limits.{maxReading, maxFrames, maxPoints, maxList}
+use Rattle.refusal.proofs.Bools.{neither, all5}
+use Rattle.limits.specs.Limits.{maxReading, maxFrames, maxPoints, maxList, maxScan}
 use Rattle.frameindex.specs.declared.numbers.Further.{Further}
 use Rattle.frameindex.specs.FrameIndex.{Index, frames, points, seenIn}
 use Rattle.frameindex.specs.IndexNumber.{indexChecks, indexNumber, Front}
 use Rattle.frameindex.proofs.IndexNumberLaws.{accepted}
-use Rattle.manytraces.specs.declared.numbers.Rooms.{Rooms}
+use Rattle.framesums.specs.declared.inner.Window.{Window}
+use Rattle.framesums.proofs.Laws.{sums-length as frame-sums}
+use Rattle.scansums.proofs.Laws.{sums-length as scan-sums}
+use Rattle.marginals.specs.declared.inner.Block.{Block}
+use Rattle.marginals.specs.Marginals.{windowOf, framesIn, rtMarginal, imMarginal, marginalAsks}
+use Rattle.traces.specs.Traces.{traceOf}
 use Rattle.manytraces.specs.declared.TracesAnswer.{TracesAnswer}
 use Rattle.manytraces.specs.ManyTraces.{Call, peaksIn, manyAsks, tracesSays, numberFor}
 use Rattle.manytraces.specs.ManyTraces as many
@@ -42,6 +47,20 @@ module _ (ix : Index) (asks : Further) where
 
     pub sums-word : (w : ℕ) → w ≡ wordOf itself says → Summed ix asks sums was is w
     sums-word w e = record { word = e ∙ ap (wordOf itself) (f .answered); out = f .out }
+
+-- the sums of each entry are few
+pub few-traced : (ix : Index) (asks : Further) (w : Window) → indexNumber maxReading ix asks ≡ 0 → length (traceOf ix w) ≤ 65536
+few-traced ix asks w e = omega (arith, frame-sums ix w 0 (frames ix), few-frames ix asks e)
+
+module _ (ix : Index) (b : Block) (n room : ℕ) (e : indexNumber maxReading ix (marginalAsks ix b n room) ≡ 0) where
+  pub few-by-frame : length (rtMarginal ix b) ≤ 65536
+  few-by-frame =
+      let r = all5 (leb (b .«rt_lo») (b .«rt_hi»)) (accepted maxReading ix (marginalAsks ix b n room) e .values) in
+      omega (arith, frame-sums ix (windowOf b) (b .«rt_lo») (framesIn b), ltb-true (b .«rt_hi») (frames ix) (r .1), few-frames ix (marginalAsks ix b n room) e)
+
+  pub few-by-scan : length (imMarginal ix b) ≤ 65536
+  few-by-scan =
+      omega (arith, scan-sums ix (windowOf b) (b .«rt_lo») (framesIn b), leb-true (b .«im_hi») maxScan (accepted maxReading ix (marginalAsks ix b n room) e .axes))
 
 pub sums-told : SumsTold
 sums-told ix asks sums = word-told itself (indexNumber maxReading ix asks) (length sums) (number-small ix asks)

@@ -38,7 +38,18 @@ pub extern "C" fn rubzolena_build_rt_marginal(
         (blockOf «rt_lo» «rt_hi» «bin_lo» «bin_hi» «im_lo» «im_hi») (now (out .entry)) (now (out .exit)) r ⌝ }
 {
     let answer = marginals::build_rt_marginal(
-        starts, bins, offsets, scans, readings, rt_lo, rt_hi, bin_lo, bin_hi, im_lo, im_hi, out,
+        starts,
+        bins,
+        offsets,
+        scans,
+        readings,
+        rt_lo,
+        rt_hi,
+        bin_lo,
+        bin_hi,
+        im_lo,
+        im_hi,
+        out,
     );
     word_of(answer)
 }
@@ -63,7 +74,18 @@ pub extern "C" fn rubzolena_build_im_marginal(
         (blockOf «rt_lo» «rt_hi» «bin_lo» «bin_hi» «im_lo» «im_hi») (now (out .entry)) (now (out .exit)) r ⌝ }
 {
     let answer = marginals::build_im_marginal(
-        starts, bins, offsets, scans, readings, rt_lo, rt_hi, bin_lo, bin_hi, im_lo, im_hi, out,
+        starts,
+        bins,
+        offsets,
+        scans,
+        readings,
+        rt_lo,
+        rt_hi,
+        bin_lo,
+        bin_hi,
+        im_lo,
+        im_hi,
+        out,
     );
     word_of(answer)
 }

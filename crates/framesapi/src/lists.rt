@@ -48,7 +48,16 @@ pub extern "C" fn rubzolena_rt_traces_for_im_peaks_by_bounds(
         num_bins,
     };
     let answer = manytraces::rt_traces_for_im_peaks_by_bounds(
-        starts, bins, offsets, scans, readings, scale, list, extra_bins_pad, out, windows,
+        starts,
+        bins,
+        offsets,
+        scans,
+        readings,
+        scale,
+        list,
+        extra_bins_pad,
+        out,
+        windows,
     );
     word_of(answer)
 }

@@ -38,7 +38,16 @@ pub extern "C" fn rubzolena_rt_trace_for_im_peak(
         «tof_row» «bin_pad» «scan_lo» «scan_hi» (now (out .entry)) (now (out .exit)) r ⌝ }
 {
     let answer = traces::rt_trace_for_im_peak(
-        starts, bins, offsets, scans, readings, tof_row, bin_pad, scan_lo, scan_hi, out,
+        starts,
+        bins,
+        offsets,
+        scans,
+        readings,
+        tof_row,
+        bin_pad,
+        scan_lo,
+        scan_hi,
+        out,
     );
     word_of(answer)
 }
@@ -72,7 +81,18 @@ pub extern "C" fn rubzolena_rt_trace_for_im_peak_by_bounds(
         num_bins,
     };
     let answer = traces::rt_trace_for_im_peak_by_bounds(
-        starts, bins, offsets, scans, readings, scale, tof_lo, tof_hi, extra_bins_pad, scan_lo, scan_hi, out,
+        starts,
+        bins,
+        offsets,
+        scans,
+        readings,
+        scale,
+        tof_lo,
+        tof_hi,
+        extra_bins_pad,
+        scan_lo,
+        scan_hi,
+        out,
     );
     word_of(answer)
 }

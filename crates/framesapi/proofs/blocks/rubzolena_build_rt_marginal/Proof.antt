@@ -1,5 +1,7 @@
 use borrow.Author.Needs.{needs}
-use Rattle.framesapi.proofs.SumWords.{sums-word, sums-fit}
+use lib.ListN.{length}
+use Rattle.marginals.specs.Marginals.{blockOf, framesIn}
+use Rattle.framesapi.proofs.SumWords.{sums-word, sums-fit, few-by-frame}
 use Rattle.framesapi.proofs.blocks.rubzolena_build_rt_marginal.Statement.{statement}
 use Rattle.framesapi.proofs.blocks.rubzolena_build_rt_marginal.Tie as tie
 
@@ -7,7 +9,9 @@ build-rt-marginal-requires : tie.Need-build-rt-marginal-requires
 build-rt-marginal-requires c κs = search needs
 
 word-of-requires : tie.Need-word-of-requires
-word-of-requires c κs = sums-fit _ _ (c .before .before .build-rt-marginal .ensures) (λ z. ?)
+word-of-requires c κs = let s = c .before .before .before .before .before .before .before .before .before .before in
+    let b = blockOf (s .args .rt-lo) (s .args .rt-hi) (s .args .bin-lo) (s .args .bin-hi) (s .args .im-lo) (s .args .im-hi) in
+    sums-fit _ _ (c .before .before .build-rt-marginal .ensures) (λ z. few-by-frame _ b (framesIn b) (length (s .args .out .now)) z)
 
 same-length : tie.Need-same-length
 same-length c = search needs

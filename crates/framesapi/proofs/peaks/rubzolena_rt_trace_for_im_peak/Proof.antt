@@ -1,5 +1,5 @@
 use borrow.Author.Needs.{needs}
-use Rattle.framesapi.proofs.SumWords.{sums-word, sums-fit}
+use Rattle.framesapi.proofs.SumWords.{sums-word, sums-fit, few-traced}
 use Rattle.framesapi.proofs.peaks.rubzolena_rt_trace_for_im_peak.Statement.{statement}
 use Rattle.framesapi.proofs.peaks.rubzolena_rt_trace_for_im_peak.Tie as tie
 
@@ -7,7 +7,7 @@ rt-trace-for-im-peak-requires : tie.Need-rt-trace-for-im-peak-requires
 rt-trace-for-im-peak-requires c κs = search needs
 
 word-of-requires : tie.Need-word-of-requires
-word-of-requires c κs = sums-fit _ _ (c .before .before .rt-trace-for-im-peak .ensures) (λ z. ?)
+word-of-requires c κs = sums-fit _ _ (c .before .before .rt-trace-for-im-peak .ensures) (λ z. few-traced _ _ _ z)
 
 same-length : tie.Need-same-length
 same-length c = search needs
