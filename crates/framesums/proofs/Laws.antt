@@ -1,15 +1,15 @@
 -- Sums of points, bins and frames, part by part.
 use mathlib.Core.Path.{_≡_, refl, sym, ap, _∙_}
 use mathlib.Core.Bool.{Bool, true, false, cond}
-use mathlib.Core.List.{List, [], _∷_, _++_, map-append, append-assoc}
+use mathlib.Core.List.{List, [], _∷_, _++_, map, map-append, append-assoc}
 use Prim.Native.Nat.{ℕ, zero, suc, _≤_, _<_, _+_, _-_}
 use native.Mathlib.Numerals.{add-one}
 use native.Mathlib.Omega.{arith}
 use borrow.Author.Tests.{le-leb, lt-leb, ltb-true, ltb-false, eqb-true, eqb-false}
 use lib.Dec.{leb, ltb, eqb}
-use lib.ListN.{length, getD, drop, set, length-map}
-use lib.Seq.{drop-cons, set-at}
-use lib.Ieee.{Float}
+use lib.ListN.{length, getD, take, drop, set, length-map}
+use lib.Seq.{drop-cons, take-suc, set-at}
+use lib.Ieee.{Float, nan}
 use Rattle.refusal.proofs.Bools.{and-false}
 use Rattle.numeric.specs.Arith.{_⊕_, 𝟎, at}
 use Rattle.digits.specs.Sorted.{upTo}
@@ -280,6 +280,16 @@ module _ (ix : Index) (ck : Checked ix) (f : ℕ) (l : f + 1 < length (ix .start
         })
 
 -- ---- sums of frames one after another
+
+-- the front of a list, told by its values
+pub front-map : (l : List Float) (f : ℕ → Float) (n : ℕ) → n ≤ length l → ((k : ℕ) → k < n → at l k ≡ f k) → take n l ≡ map f (upTo n)
+unfolding upTo
+front-map l f zero h e = refl
+front-map l f (suc n) h e =
+    take-suc l n nan (omega arith)
+    ∙ ap (λ (x : List Float). x ++ (at l n ∷ [])) (front-map l f n (omega arith) (λ k j. e k (omega arith)))
+    ∙ ap (λ (v : Float). map f (upTo n) ++ (v ∷ [])) (e n (omega arith))
+    ∙ sym (map-append f (upTo n) (n ∷ []))
 
 -- a list that fills a buffer from its front grows by one
 push : {A : Type 0} (P d : List A) (n : ℕ) (v : A) → length P ≡ n → n < length d → set (P ++ drop n d) n v ≡ (P ++ (v ∷ [])) ++ drop (n + 1) d
