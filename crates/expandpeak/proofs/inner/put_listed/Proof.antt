@@ -95,8 +95,7 @@ loop-again c = let w = c .before .before in
     let same = l .loop .inv .0 in
     let peak = a .place-apex .ensures
     ∙ ap (λ (q : RtLocalPeak). placed (g .lo) (length (g .y .now)) (g .ids .now) (g .p) (q .apex) (g .first + k)) (a .before .before .local-peak .ensures)
-    ∙ ap (λ (n : ℕ). placed (g .lo) n (g .ids .now) (g .p) (localPeakOf (g .y .now) (g .x .now) (g .t .now) (indexAt (g .found .now) (getD (g .order .now) k 0)) .apex) (g .first + k)) (sym (s .pre .raw)) in
-    (
+    ∙ ap (λ (n : ℕ). placed (g .lo) n (g .ids .now) (g .p) (localPeakOf (g .y .now) (g .x .now) (g .t .now) (indexAt (g .found .now) (getD (g .order .now) k 0)) .apex) (g .first + k)) (sym (s .pre .raw)) in (
       ap length (w .put-rt-peak .ensures) ∙ rt-same-length (l .loop .out) k (a .place-apex .result) (omega arith) ∙ same,
       omega arith,
       rw (w .put-rt-peak .ensures) (one-listed (g .y .now) (g .x .now) (g .t .now) (g .found .now) (g .order .now) (g .lo) (g .ids .now) (g .p) (g .first) (g .out .now) (l .loop .out) k (a .place-apex .result) (omega arith) (l .loop .inv .2) peak),
