@@ -298,6 +298,7 @@ module _ (floor sep minWidth : Float) (y z t : List Float) (found : List ℕ) (m
       let a : length (listedApexes floor sep minWidth y z t) ≡ n = sym (ap length listed-apexes) ∙ length-map (listedPlaces sep minWidth y z t found m) (indexAt found) ∙ sym e in
       record {
         count = sym a;
+        few = omega (arith, e, listed-few, few);
         room = omega (arith, e, listed-few);
         apexes = ap (map (indexAt found)) f ∙ listed-apexes;
         stand = front-below (Stands y z found) order (listedPlaces sep minWidth y z t found m) n f e (λ p i. all-stand p (listed-below p i));
@@ -311,7 +312,7 @@ none-listed floor sep minWidth y z t e = rw e
 pub none-found : (floor sep minWidth : Float) (y z t : List Float) (found order : List ℕ) → qualifying (asks floor) y z ≡ [] → RtFound floor sep minWidth y z t found order 0
 none-found floor sep minWidth y z t found order e =
     let n = none-listed floor sep minWidth y z t e in
-    record { count = rw n; room = omega arith; apexes = sym n; stand = λ k h. absurd (omega arith) }
+    record { count = rw n; few = omega arith; room = omega arith; apexes = sym n; stand = λ k h. absurd (omega arith) }
 
 pub low-none : (floor : Float) (y z : List Float) → reaches floor (highestReading 𝟎 z) ≡ false → qualifying (asks floor) y z ≡ []
 unfolding qualifying

@@ -123,6 +123,7 @@ pub record RtSearchable (y z t : List Float) (turns bases found order : ℕ) : T
 -- The n listed apexes of a trace: the first n words of `order` are their places in `found`, in the final order.
 pub record RtFound (floor sep minWidth : Float) (y z t : List Float) (found order : List ℕ) (n : ℕ) : Type 0 where
   pub count : n ≡ length (listedApexes floor sep minWidth y z t)
+  pub few : n ≤ mostPeaks (length y)
   pub room : n ≤ length order
   pub apexes : map (indexAt found) (take n order) ≡ listedApexes floor sep minWidth y z t
   pub stand : (k : ℕ) → k < n → Stands y z found (getD order k 0)
