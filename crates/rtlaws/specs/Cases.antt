@@ -1,0 +1,1 @@
+-- Worked cases, by computation; they need not be read to know what is promised.
