@@ -2,3 +2,4 @@
 pub mod GivenLaws
 pub mod RtWords
 pub mod WindowWords
+pub mod SearchWords

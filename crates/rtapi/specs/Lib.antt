@@ -3,3 +3,4 @@ pub mod Given
 pub mod Noise
 pub mod Window
 pub mod Fallback
+pub mod Search
