@@ -1,14 +1,12 @@
 -- The stitched records and the owner column of a list that was accepted account for its peaks.
 use mathlib.Core.Path.{_≡_, refl, sym, ap, _∙_}
-use mathlib.Core.Bool.{Bool, true, false, cond, _&&_}
-use mathlib.Core.List.{List, [], _∷_}
+use mathlib.Core.Bool.{Bool, true, false, cond}
+use mathlib.Core.List.{List}
 use Prim.Native.Nat.{ℕ, _*_, _/_, _%_, _<_}
 use native.Mathlib.Omega.{arith}
-use lib.Dec.{ltb, eqb}
+use lib.Dec.{eqb}
 use lib.ListN.{length}
-use borrow.Author.Tests.{ltb-true, eqb-true, eqb-false}
-use Rattle.refusal.specs.Refusal.{Check, firstOf}
-use Rattle.refusal.proofs.Bools.{both}
+use borrow.Author.Tests.{eqb-true, eqb-false}
 use Rattle.peaklist.proofs.PeakListLaws.{peaks-fit}
 use Rattle.matching.specs.declared.StitchParams.{StitchParams}
 use Rattle.distinct.proofs.DistinctLaws.{distinct-tells}
@@ -17,9 +15,9 @@ use Rattle.passes.specs.Account.{StitchedAccount}
 use Rattle.passes.proofs.Account.{left-account}
 use Rattle.stitch.specs.declared.StitchAnswer.{StitchAnswer}
 use Rattle.stitch.specs.declared.StitchAnswer.the-variants.{Stitched, Refused}
-use Rattle.stitch.specs.StitchNumber.{countIn, peaksIn, stitchChecks}
+use Rattle.stitch.specs.StitchNumber.{countIn, peaksIn}
 use Rattle.stitch.specs.Answer.{Lent, roomsOf, numberFor, Written, Answered}
-use Rattle.stitch.proofs.StitchNumberLaws.{number-is, stitch-which}
+use Rattle.stitch.proofs.StitchNumberLaws.{number-under, stitch-which}
 use Rattle.stitch.proofs.Laws.{accepted}
 use Rattle.capi.specs.Entry.{entryAnswer}
 use Rattle.stitchlaws.specs.StitchAccount.{Accounted, AcceptedAccounted, CountAccounts, CallAccounts}
@@ -55,26 +53,7 @@ count-accounts told list params was is count a =
 
 -- ---- the C entry
 
--- every number of a list of checks is below 64
-allUnder : List Check → Bool
-allUnder [] = true
-allUnder (c ∷ cs) = ltb (c .number) 64 && allUnder cs
-
-first-under : (cs : List Check) → allUnder cs ≡ true → firstOf cs < 64
-unfolding allUnder firstOf
-first-under [] h = omega arith
-first-under (c ∷ cs) h = go (c .applies) (both (ltb (c .number) 64) h) (first-under cs)
-  where
-    go : (b : Bool) → (ltb (c .number) 64 ≡ true) × (allUnder cs ≡ true) → (allUnder cs ≡ true → firstOf cs < 64) → cond b (c .number) (firstOf cs) < 64
-    go true e i = ltb-true (c .number) 64 (e .0)
-    go false e i = i (e .1)
-
-number-under : (told : Bool) (list : List ℕ) (params : StitchParams) (was : Lent) → numberFor told list params was < 64
-unfolding allUnder
-number-under told list params was =
-    rw (number-is told list params (roomsOf was)) (first-under (stitchChecks told list params (roomsOf was)) refl)
-
--- so an answer whose remainder is 0 is that of a count
+-- every number is below 64, so that an answer whose remainder is 0 is that of a count
 which : (number count r : ℕ) → number < 64 → r ≡ entryAnswer number count → r % 64 ≡ 0 → (number ≡ 0) × (r / 64 ≡ count)
 which number count r h e z = go (eqb number 0) refl e
   where
@@ -85,5 +64,5 @@ which number count r h e z = go (eqb number 0) refl e
 pub call-accounts : CallAccounts
 call-accounts told list params was is r a z =
     let n = length (stitched params (peaksIn list)) in
-    let w = which (numberFor told list params was) n r (number-under told list params was) (a .answer) z in
+    let w = which (numberFor told list params was) n r (number-under told list params (roomsOf was)) (a .answer) z in
     rw (w .1) (written-account told list params was is (w .0) (a .accepted (w .0)))
