@@ -5,13 +5,14 @@ use mathlib.Core.List.{List}
 use Prim.Native.Nat.{ℕ, _*_, _/_, _%_, _<_}
 use native.Mathlib.Omega.{arith}
 use lib.Dec.{eqb}
-use lib.ListN.{length}
+use lib.ListN.{length, length-append, length-map}
 use borrow.Author.Tests.{eqb-true, eqb-false}
-use Rattle.peaklist.proofs.PeakListLaws.{peaks-fit}
+use Rattle.peaklist.proofs.PeakListLaws.{peaks-length, peaks-fit, words-length}
+use Rattle.digits.specs.Sorted.{upTo}
+use Rattle.digits.proofs.UpTo.{upto-length}
 use Rattle.matching.specs.declared.StitchParams.{StitchParams}
 use Rattle.distinct.proofs.DistinctLaws.{distinct-tells}
-use Rattle.passes.specs.Stitching.{stitched}
-use Rattle.passes.specs.Account.{StitchedAccount}
+use Rattle.passes.specs.Stitching.{stitched, ownerOf, ownersOf}
 use Rattle.passes.proofs.Account.{left-account}
 use Rattle.stitch.specs.declared.StitchAnswer.{StitchAnswer}
 use Rattle.stitch.specs.declared.StitchAnswer.the-variants.{Stitched, Refused}
@@ -24,19 +25,28 @@ use Rattle.stitchlaws.specs.StitchAccount.{Accounted, AcceptedAccounted,
 
 -- what is written where no number applies
 written-account : (told : Bool) (list : List ℕ) (params : StitchParams) (was is : Lent) → numberFor told list params was ≡ 0
-    → Written params (peaksIn list) was is → StitchedAccount (peaksIn list) (length (stitched params (peaksIn list))) (is .out) (is .owners)
+    → Written params (peaksIn list) was is → Accounted list is (length (stitched params (peaksIn list)))
 written-account told list params was is e w =
-    left-account params (peaksIn list) (was .out) (was .owners) (length (stitched params (peaksIn list))) (is .out) (is .owners)
-    (record { counted = refl; records = w .records; column = w .column })
-    (peaks-fit list (countIn list))
-    (distinct-tells (peaksIn list) (accepted told list params (roomsOf was) e .distinct-ids))
+    let ps = peaksIn list in
+    let found = stitched params ps in
+    let few : length ps ≡ countIn list = peaks-length list (countIn list) in
+    let wide : length (ownersOf params ps) ≡ length ps = length-map (upTo (length ps)) (ownerOf params ps) ∙ upto-length (length ps) in
+    record {
+      records = rw (w .records) (simp (length-append, words-length found) (omega arith));
+      column = rw (w .column) (simp (length-append, wide) (omega (arith, few)));
+      account =
+          left-account params ps (was .out) (was .owners) (length found) (is .out) (is .owners)
+          (record { counted = refl; records = w .records; column = w .column })
+          (peaks-fit list (countIn list))
+          (distinct-tells ps (accepted told list params (roomsOf was) e .distinct-ids));
+    }
 
 pub accepted-accounted : AcceptedAccounted
 accepted-accounted told list params was is answer a e =
     record {
       count = length (stitched params (peaksIn list));
       answered = rw e at (stitch-which answer (numberFor told list params was) (length (stitched params (peaksIn list))) (a .answered));
-      account = written-account told list params was is e (a .accepted e);
+      accounted = written-account told list params was is e (a .accepted e);
     }
 
 -- the count of an answer that is one
@@ -49,7 +59,7 @@ unfolding countOf
 count-accounts told list params was is count a =
     let b = accepted-accounted told list params was is (Stitched count) a (sym (ap (λ s. s .number) (a .answered))) in
     let e : count ≡ b .count = ap countOf (b .answered) in
-    rw e (b .account)
+    rw e (b .accounted)
 
 -- ---- the C entry
 
