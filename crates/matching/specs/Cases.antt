@@ -76,9 +76,10 @@ peak row first last flags group scan left right id =
       id = id;
     }
 
--- 3 frames in common, and a share of all, some scans, both apexes within, no crossing of groups; with limits for rows and scans
-abbrev pub asks : (share scans rowLimit scanLimit : ℕ) → StitchParams
-asks share scans rowLimit scanLimit =
+-- 3 frames in common and a share of all, some scans and a share of all, both apexes within, no crossing of groups; with limits for rows and
+-- scans
+abbrev pub asksShares : (share scans scanShare rowLimit scanLimit : ℕ) → StitchParams
+asksShares share scans scanShare rowLimit scanLimit =
     record {
       «min_overlap_frames» = 3;
       «max_scan_delta» = scanLimit;
@@ -86,9 +87,13 @@ asks share scans rowLimit scanLimit =
       «max_tof_row_delta» = rowLimit;
       «allow_cross_groups» = false;
       «min_im_overlap_scans» = scans;
-      «im_jaccard_min» = 𝟎;
+      «im_jaccard_min» = ofBits binary32 scanShare;
       «require_mutual_apex_inside» = true;
     }
+
+-- no share of scans
+abbrev pub asks : (share scans rowLimit scanLimit : ℕ) → StitchParams
+asks share scans rowLimit scanLimit = asksShares share scans 0 rowLimit scanLimit
 
 -- a quarter of all frames, and 1 scan
 abbrev pub asked : (rowLimit scanLimit : ℕ) → StitchParams
@@ -122,15 +127,18 @@ unfolding mayJoin withinLimits rowSpan scanSpan extreme compatible sameGroup gro
 peaks-together = refl
 
 -- A third of all frames is exactly met, and the next float above it is not; the 9 scans in common are counted in the row, where
--- there are 17 absolute ones; the absolute apexes lie 4 apart, those in the row 2.
+-- there are 17 absolute ones; of the 15 scans of the row they are three fifths, which is exactly met, and the next float above it is
+-- not; the absolute apexes lie 4 apart, those in the row 2.
 pub just-met :
     compatible (asks 0x3eaa_aaab 1 2 10) a b
     ∷ compatible (asks 0x3eaa_aaac 1 2 10) a b
     ∷ compatible (asks 0x3e80_0000 9 2 10) a b
     ∷ compatible (asks 0x3e80_0000 10 2 10) a b
+    ∷ compatible (asksShares 0x3e80_0000 9 0x3f19_999a 2 10) a b
+    ∷ compatible (asksShares 0x3e80_0000 9 0x3f19_999b 2 10) a b
     ∷ mayJoin (asked 2 4) (a ∷ []) b
     ∷ mayJoin (asked 2 3) (a ∷ []) b
     ∷ []
-    ≡ true ∷ false ∷ true ∷ false ∷ true ∷ false ∷ []
+    ≡ true ∷ false ∷ true ∷ false ∷ true ∷ false ∷ true ∷ false ∷ []
 unfolding mayJoin withinLimits rowSpan scanSpan extreme compatible sameGroup groupOf rowsNear atMost framesOverlap scansOverlap enoughCommon overlap jaccardF samples apexesInside inside maxF isNan lt le add sub div ofInt ofBits
 just-met = refl
