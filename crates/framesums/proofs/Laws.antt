@@ -1,6 +1,6 @@
 -- Sums of points, bins and frames, part by part.
 use mathlib.Core.Path.{_≡_, refl, sym, ap, _∙_}
-use mathlib.Core.Bool.{Bool, true, false, cond}
+use mathlib.Core.Bool.{Bool, true, false, cond, _||_}
 use mathlib.Core.List.{List, [], _∷_, _++_, map, map-append, append-assoc}
 use Prim.Native.Nat.{ℕ, zero, suc, _≤_, _<_, _+_, _-_}
 use native.Mathlib.Numerals.{add-one}
@@ -10,7 +10,7 @@ use lib.Dec.{leb, ltb, eqb}
 use lib.ListN.{length, getD, take, drop, set, length-map}
 use lib.Seq.{drop-cons, take-suc, set-at}
 use lib.Ieee.{Float, nan}
-use Rattle.refusal.proofs.Bools.{and-false}
+use Rattle.refusal.proofs.Bools.{and-false, neither}
 use Rattle.numeric.specs.Arith.{_⊕_, 𝟎, at}
 use Rattle.digits.specs.Sorted.{upTo}
 use Rattle.digits.proofs.UpTo.{upto-length}
@@ -20,7 +20,7 @@ use Rattle.frameindex.proofs.Laws.{climbs-up, climbs-most, frame-up, sound-part
 use Rattle.frameindex.proofs.IndexNumberLaws.{Accepted}
 use Rattle.framesums.specs.declared.inner.Window.{Window}
 use Rattle.framesums.specs.Sums.{inBins, inScans, addPoints, addBins, addFrame, frameSums}
-use Rattle.framesums.specs.Steps.{Checked, Rising, FirstAt, withScans, PointsOf}
+use Rattle.framesums.specs.Steps.{Checked, Rising, FirstAt, anyIn, withScans, PointsOf}
 
 module _ (ix : Index) (w : Window) where
   -- ---- points
@@ -54,6 +54,12 @@ module _ (ix : Index) (w : Window) where
       let e : d - a ≡ (b - a) + (d - b) = omega arith in
       let f : a + (b - a) ≡ b = omega arith in
       rw e (points-more (b - a) (d - b) a so ∙ ap (λ (i : ℕ). addPoints ix w (d - b) i (addPoints ix w (b - a) a so)) f)
+
+  -- points of which none lies in the window
+  pub points-out : (n a : ℕ) (so : Float) → anyIn w (ix .scans) n a ≡ false → addPoints ix w n a so ≡ so
+  unfolding addPoints anyIn
+  points-out zero a so h = refl
+  points-out (suc n) a so h = let e = neither (inScans w (getD (ix .scans) a 0)) h in rw (e .0) (points-out n (a + 1) so (e .1))
 
   -- ---- bins
 
@@ -119,6 +125,36 @@ module _ (ix : Index) (w : Window) where
       ∙ bins-out (t - j) j (addBins ix w (j - i) i so) (λ k x y. above-bins (getD (ix .bins) k 0) (omega (arith, b .high k x (omega arith))))
       ∙ bins-in (j - i) i m so c (omega arith) (λ k x y. in-bins (getD (ix .bins) k 0) (a .high k x (omega arith)) (omega (arith, b .low k x (omega arith))))
       ∙ ap (λ (k : ℕ). addPoints ix w (getD (ix .offsets) k 0 - getD (ix .offsets) i 0) (getD (ix .offsets) i 0) so) e
+
+-- ---- whether a scan lies in the window
+
+any-step : (w : Window) (scans : List ℕ) (n i j : ℕ) → i < n → anyIn w scans (n - i) (j + i) ≡ (inScans w (getD scans (j + i) 0) || anyIn w scans (n - (i + 1)) (j + (i + 1)))
+unfolding anyIn
+any-step w scans n i j h =
+    let e : n - i ≡ suc (n - (i + 1)) = omega arith in
+    let k : j + (i + 1) ≡ j + i + 1 = omega arith in
+    rw (e, k)
+
+or-assoc : (a b c : Bool) → (a || (b || c)) ≡ ((a || b) || c)
+or-assoc true b c = refl
+or-assoc false b c = refl
+
+or-false : (a : Bool) → (a || false) ≡ a
+or-false true = refl
+or-false false = refl
+
+pub any-start : (w : Window) (scans : List ℕ) (n j : ℕ) → anyIn w scans n j ≡ (false || anyIn w scans (n - 0) (j + 0))
+any-start w scans n j = let e : n - 0 ≡ n = omega arith in let k : j + 0 ≡ j = omega arith in rw (e, k)
+
+pub any-more : (w : Window) (scans : List ℕ) (n i j : ℕ) (any : Bool) → i < n → anyIn w scans n j ≡ (any || anyIn w scans (n - i) (j + i))
+    → anyIn w scans n j ≡ ((any || inScans w (getD scans (j + i) 0)) || anyIn w scans (n - (i + 1)) (j + (i + 1)))
+any-more w scans n i j any h e =
+    e ∙ ap (λ (b : Bool). any || b) (any-step w scans n i j h)
+    ∙ or-assoc any (inScans w (getD scans (j + i) 0)) (anyIn w scans (n - (i + 1)) (j + (i + 1)))
+
+pub any-end : (w : Window) (scans : List ℕ) (n i j : ℕ) (any : Bool) → n ≤ i → anyIn w scans n j ≡ (any || anyIn w scans (n - i) (j + i)) → any ≡ anyIn w scans n j
+unfolding anyIn
+any-end w scans n i j any h e = let z : n - i ≡ 0 = omega arith in sym (or-false any) ∙ sym (rw z at e)
 
 -- ---- the search
 

@@ -4,7 +4,7 @@ ghost use mathlib.Core.List.{_++_};
 ghost use Prim.Native.Nat.{ℕ, _≤_, _<_, _+_, _-_};
 ghost use lib.ListN.{length, getD, drop};
 ghost use Rattle.framesums.specs.Sums.{addPoints, addFrame, frameSums};
-ghost use Rattle.framesums.specs.Steps.{indexOf, Checked, Rising, FirstAt, PointsOf};
+ghost use Rattle.framesums.specs.Steps.{indexOf, Checked, Rising, FirstAt, anyIn, PointsOf};
 
 // Bins and scans, ends included.
 pub struct Window {
@@ -85,8 +85,8 @@ pub fn span_of(
     }
 }
 
-// Adds the readings of a span whose scans lie in the window.
-fn add_points(
+// Adds the readings of a span whose scans lie in the window, point by point.
+fn add_each(
     starts: &[u32],
     bins: &[u32],
     offsets: &[u32],
@@ -109,6 +109,47 @@ fn add_points(
         j += 1;
     }
     sum
+}
+
+// Whether one of eight scans from place j on lies in the window.
+fn any_of_eight(scans: &[u32], j: usize, w: Window) -> bool
+    requires { ⌜ j + 8 ≤ length (now scans) ⌝ }
+    ensures { λ r. ⌜ r ≡ anyIn w (now (scans .entry)) 8 j ⌝ }
+{
+    let mut any = false;
+    for i in 0..8 {
+        let s = scans[j + i];
+        any = any | ((w.scan_lo <= s) & (s <= w.scan_hi));
+    }
+    any
+}
+
+// The same as point by point; eight points are passed over at a time where none of them lies in the window.
+fn add_points(
+    starts: &[u32],
+    bins: &[u32],
+    offsets: &[u32],
+    scans: &[u32],
+    readings: &[f32],
+    p: Span,
+    w: Window,
+    so: f32,
+) -> f32
+    requires { ⌜ (p .from ≤ p .to) × (p .to ≤ length (now scans)) × (length (now readings) ≡ length (now scans)) ⌝ }
+    ensures { λ r. ⌜ r ≡ addPoints (indexOf (now (starts .entry)) (now (bins .entry)) (now (offsets .entry)) (now (scans .entry)) (now (readings .entry))) w (p .to - p .from) (p .from) so ⌝ }
+{
+    let mut sum = so;
+    let mut j = p.from;
+    while p.to - j >= 8 {
+        let any = any_of_eight(scans, j, w);
+        if any {
+            let q = Span { from: j, to: j + 8 };
+            sum = add_each(starts, bins, offsets, scans, readings, q, w, sum);
+        }
+        j += 8;
+    }
+    let rest = Span { from: j, to: p.to };
+    add_each(starts, bins, offsets, scans, readings, rest, w, sum)
 }
 
 // Adds the readings of frame f whose bin and scan lie in the window.
