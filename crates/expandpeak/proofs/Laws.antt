@@ -5,9 +5,13 @@ use mathlib.Core.List.{List, [], _∷_, _++_, map, map-append}
 use Prim.Native.Nat.{ℕ, suc, _≤_, _<_, _+_, _-_, _*_}
 use native.Mathlib.Numerals.{add-one}
 use native.Mathlib.Omega.{arith}
-use lib.ListN.{length, getD, take, drop, length-map}
-use lib.Seq.{take-suc, length-take-le}
+use lib.ListN.{length, getD, take, drop, length-map, length-append}
+use lib.Seq.{take-suc, length-take-le, take-at}
 use lib.Ieee.{Float}
+use Rattle.limits.specs.Limits.{anyNumber}
+use Rattle.numeric.specs.Numeric.{allInRange}
+use Rattle.smoothing.specs.Smoothing.{smoothed}
+use Rattle.smoothing.proofs.Laws.{smoothed-length}
 use Rattle.record.specs.declared.ImPeak1D.{ImPeak1D}
 use Rattle.rtrecord.specs.RtRecord.{rtSize, withRtPeak}
 use Rattle.rtrecord.specs.declared.RtApex.{RtApex}
@@ -17,10 +21,12 @@ use Rattle.rtapex.specs.InTime.{localPeakOf}
 use Rattle.rtparams.specs.declared.RtExpandParams.{RtExpandParams}
 use Rattle.rtsearch.specs.Retention.{listedApexes}
 use Rattle.rtsearch.specs.Steps.{indexAt, RtFound}
-use Rattle.expandtrace.specs.FallbackPeaks.{placedAll, Put}
+use Rattle.expandtrace.specs.declared.inner.Way.the-variants.{AllZero, TooShort, Smoothed}
+use Rattle.expandtrace.specs.Trace.{wayOf}
+use Rattle.expandtrace.specs.FallbackPeaks.{placedAll, fallbackPeaks, peakWords, Put}
 use Rattle.expandtrace.proofs.Peaks.{placed-more, put-start, put-next}
-use Rattle.expandpeak.specs.Expanded.{floorOf, searched}
-use Rattle.expandpeak.specs.Steps.{placedApexes, apexesOf, Listable, Searchable}
+use Rattle.expandpeak.specs.Expanded.{floorOf, searched, orElse, byWay}
+use Rattle.expandpeak.specs.Steps.{placedApexes, apexesOf, followed, Listable, Searchable, Smoothable}
 
 -- the index is that of the apex
 pub local-index : (y x t : List Float) (i : ℕ) → localPeakOf y x t i .apex .«rt_idx» ≡ i
@@ -89,3 +95,86 @@ listable {y = y} found order n s f =
       named = omega arith;
       room = omega arith;
     }
+
+-- ---- smoothing
+
+-- the smoothed trace stands at the front of scratch
+pub smooth-front : (ws x was is : List Float) → is ≡ smoothed ws x ++ drop (length x) was → take (length x) is ≡ smoothed ws x
+smooth-front ws x was is e = ap (take (length x)) e ∙ take-at (smoothed ws x) (drop (length x) was) (length x) (smoothed-length ws x)
+
+pub smooth-long : (ws x was is : List Float) → is ≡ smoothed ws x ++ drop (length x) was → length x ≤ length is
+smooth-long ws x was is e =
+    let k = length-append (smoothed ws x) (drop (length x) was) in
+    let m = smoothed-length ws x in
+    let l : length is ≡ length (smoothed ws x ++ drop (length x) was) = ap length e in
+    omega arith
+
+-- what its search asks
+pub searchable : {x t ws : List Float} {lo : ℕ} {ids : List ℕ} {first out smooth turns bases found order : ℕ} (y : List Float) → y ≡ smoothed ws x
+    → Smoothable x t ws lo ids first out smooth turns bases found order → Searchable y x t lo ids first out turns bases found order
+searchable {x = x} {ws = ws} y e s =
+    let n : length y ≡ length x = ap length e ∙ smoothed-length ws x in
+    let numbers : allInRange anyNumber y ≡ true = ap (allInRange anyNumber) e ∙ s .numbers in
+    let cut = s .cut in
+    let frames = s .frames in
+    let short = s .short in
+    let named = s .named in
+    let wide = s .room in
+    let turns = s .search .turns-long in
+    let bases = s .search .bases-long in
+    let found = s .search .found-long in
+    let order = s .order-long in
+    record {
+      trace = record {
+        numbers = numbers;
+        raw = sym n;
+        times = cut ∙ sym n;
+        short = omega arith;
+        room = record { turns-long = omega arith; bases-long = omega arith; found-long = omega arith };
+        order-long = rw n order;
+      };
+      frames = omega arith;
+      short = short;
+      named = rw n named;
+      room = rw n wide;
+    }
+
+pub put-smoothed : (lo : ℕ) (ids : List ℕ) (p : ImPeak1D) (first : ℕ) (e : RtExpandParams) (ws x t : List Float) {n : ℕ} {was is : List ℕ} (y : List Float)
+    → y ≡ smoothed ws x → Put (apexesOf e lo ids p y x t first) was n is → Put (apexesOf e lo ids p (smoothed ws x) x t first) was n is
+put-smoothed lo ids p first e ws x t {n = n} {was = was} {is = is} y g put = subst (λ (v : List Float). Put (apexesOf e lo ids p v x t first) was n is) g put
+
+-- ---- the way of a trace
+module _ (e : RtExpandParams) (ws : List Float) (ids : List ℕ) (times : List Float) (p : ImPeak1D) (lo : ℕ) (x t : List Float) (first : ℕ) (was : List ℕ) where
+  pub follow-zero : AllZero ≡ wayOf x (e .«fallback_if_frames_lt») → Put (followed e ws ids times p lo x t first) was 0 was
+  unfolding byWay
+  follow-zero h = rw (← h) (put-start was)
+
+  pub follow-short : (n : ℕ) (is : List ℕ) → TooShort ≡ wayOf x (e .«fallback_if_frames_lt»)
+      → Put (fallbackPeaks x lo ids times p (e .«fallback_frac_width») first) was n is → Put (followed e ws ids times p lo x t first) was n is
+  unfolding byWay
+  follow-short n is h f = rw (← h) f
+
+  pub follow-found : (n : ℕ) (is : List ℕ) → Smoothed ≡ wayOf x (e .«fallback_if_frames_lt») → (n ≡ 0 → ⊥)
+      → Put (apexesOf e lo ids p (smoothed ws x) x t first) was n is → Put (followed e ws ids times p lo x t first) was n is
+  unfolding byWay orElse
+  follow-found n is h some f = rw (← h) (go (apexesOf e lo ids p (smoothed ws x) x t first) f)
+    where
+      go : (ps : List RtPeak1D) → Put ps was n is → Put (orElse ps (fallbackPeaks x lo ids times p (e .«fallback_frac_width») first)) was n is
+      go [] g = absurd (some (g .count))
+      go (q ∷ ps) g = g
+
+  pub follow-fallen : (n k : ℕ) (is left : List ℕ) → Smoothed ≡ wayOf x (e .«fallback_if_frames_lt») → n ≡ 0
+      → Put (apexesOf e lo ids p (smoothed ws x) x t first) was n is
+      → Put (fallbackPeaks x lo ids times p (e .«fallback_frac_width») first) is k left → Put (followed e ws ids times p lo x t first) was k left
+  unfolding byWay orElse peakWords
+  follow-fallen n k is left h none f g = rw (← h) (go (apexesOf e lo ids p (smoothed ws x) x t first) f)
+    where
+      go : (ps : List RtPeak1D) → Put ps was n is → Put (orElse ps (fallbackPeaks x lo ids times p (e .«fallback_frac_width») first)) was k left
+      go [] b = subst (λ (l : List ℕ). Put (fallbackPeaks x lo ids times p (e .«fallback_frac_width») first) l k left) (b .words ∙ ap (λ (m : ℕ). drop (m * rtSize) was) none) g
+      go (q ∷ ps) b = absurd (omega (arith, none, b .count))
+
+-- where none was written, nothing has changed
+pub none-written : (ps : List RtPeak1D) (was : List ℕ) (n : ℕ) (is : List ℕ) → Put ps was n is → n ≡ 0 → is ≡ was
+unfolding peakWords
+none-written [] was n is f e = f .words ∙ ap (λ (m : ℕ). drop (m * rtSize) was) e
+none-written (q ∷ ps) was n is f e = absurd (omega (arith, e, f .count))

@@ -3,17 +3,14 @@ use expandtrace::inner::Way;
 use record::ImPeak1D;
 use record::PeakId;
 use rtparams::RtExpandParams;
-use rtwindow::FrameWindow;
-use tof::TofScale;
 ghost use mathlib.Core.Path.{_≡_};
 ghost use mathlib.Core.List.{_++_, map};
 ghost use Prim.Native.Nat.{ℕ, _≤_, _<_, _+_, _-_, _*_};
 ghost use lib.ListN.{length, getD, take, drop};
-ghost use Rattle.framesums.specs.Steps.{indexOf};
+ghost use Rattle.smoothing.specs.Smoothing.{smoothed};
 ghost use Rattle.rtsearch.specs.Steps.{indexAt};
 ghost use Rattle.expandtrace.specs.FallbackPeaks.{Put};
-ghost use Rattle.expandpeak.specs.Expanded.{runOf, expanded};
-ghost use Rattle.expandpeak.specs.Steps.{apexesOf, placedApexes, followed, Listable, Searchable, Followable, Expandable};
+ghost use Rattle.expandpeak.specs.Steps.{apexesOf, placedApexes, followed, Listable, Searchable, Smoothable, Followable};
 
 // Writes the retention peaks of the first n apexes of an order to the front of `out`, with identities from `first` on.
 fn put_listed(
@@ -78,4 +75,97 @@ fn search_smoothed(
     );
     put_listed(y, x, t, found, order, n, lo, ids, p, first, out);
     n
+}
+
+// The same for the trace x, which is smoothed first.
+fn search_trace(
+    x: &[f32],
+    t: &[f32],
+    e: RtExpandParams,
+    weights: &[f32],
+    lo: usize,
+    ids: &[u32],
+    p: ImPeak1D,
+    first: PeakId,
+    out: &mut [u32],
+    smooth: &mut [f32],
+    turns: &mut [u32],
+    bases: &mut [u32],
+    found: &mut [u32],
+    order: &mut [u32],
+) -> usize
+    requires { ⌜ Smoothable (now x) (now t) (now weights) lo (now ids) first (length (now out)) (length (now smooth)) (length (now turns)) (length (now bases)) (length (now found)) (length (now order)) ⌝ }
+    ensures { λ r. ⌜ Put (apexesOf e lo (now (ids .entry)) p (smoothed (now (weights .entry)) (now (x .entry))) (now (x .entry)) (now (t .entry)) first) (now (out .entry)) r (now (out .exit)) ⌝ }
+{
+    smoothing::inner::smooth(x, weights, smooth);
+    let n = x.len();
+    search_smoothed(
+        &smooth[..n],
+        x,
+        t,
+        e,
+        lo,
+        ids,
+        p,
+        first,
+        out,
+        turns,
+        bases,
+        found,
+        order,
+    )
+}
+
+// Follows a mobility peak whose trace over its window is x, by the way that the trace takes: writes its retention peaks to the front
+// of `out` and answers how many there are.
+pub fn follow(
+    x: &[f32],
+    t: &[f32],
+    e: RtExpandParams,
+    weights: &[f32],
+    lo: usize,
+    ids: &[u32],
+    times: &[f32],
+    p: ImPeak1D,
+    first: PeakId,
+    out: &mut [u32],
+    smooth: &mut [f32],
+    turns: &mut [u32],
+    bases: &mut [u32],
+    found: &mut [u32],
+    order: &mut [u32],
+) -> usize
+    requires { ⌜ Followable (now x) (now t) (now weights) lo (now ids) (now times) first (length (now out)) (length (now smooth)) (length (now turns)) (length (now bases)) (length (now found)) (length (now order)) ⌝ }
+    ensures { λ r. ⌜ Put (followed e (now (weights .entry)) (now (ids .entry)) (now (times .entry)) p lo (now (x .entry)) (now (t .entry)) first) (now (out .entry)) r (now (out .exit)) ⌝ }
+{
+    let way = expandtrace::inner::way_of(x, e.fallback_if_frames_lt);
+    let frac = e.fallback_frac_width;
+    match way {
+        Way::AllZero => 0,
+        Way::TooShort => {
+            expandtrace::inner::put_fallback(x, lo, ids, times, p, frac, first, out)
+        }
+        Way::Smoothed => {
+            let n = search_trace(
+                x,
+                t,
+                e,
+                weights,
+                lo,
+                ids,
+                p,
+                first,
+                out,
+                smooth,
+                turns,
+                bases,
+                found,
+                order,
+            );
+            if n == 0 {
+                return expandtrace::inner::put_fallback(x, lo, ids, times, p, frac, first, out);
+            }
+            n
+        }
+    }
 }

@@ -1,13 +1,8 @@
-use mathlib.Core.Path.{_≡_, refl, sym, _∙_, ap, subst}
-use mathlib.Core.Bool.{Bool, true, false, cond}
-use mathlib.Core.List.{List, [], _∷_, _++_}
-use mathlib.Core.Logic.{⊎-elim}
-use Prim.Native.Nat.{ℕ, zero, suc, _≤_, _<_, _-_, _+_, _*_}
+use mathlib.Core.Path.{_≡_, refl, sym, _∙_, ap}
+use Prim.Native.Nat.{ℕ, _≤_, _-_, _+_}
 use native.Mathlib.Omega.{arith}
 use borrow.Author.Needs.{needs}
-use lib.Dec.{T, ltb, leb, eqb}
-use lib.ListN.{length, getD, drop, take, set}
-use lib.Ieee.{Float, nan, binary32, lt}
+use lib.ListN.{length, getD, take}
 use mathlib.Core.List.{map}
 use Rattle.rtrecord.specs.declared.RtLocalPeak.{RtLocalPeak}
 use Rattle.rtrecord.proofs.RoundTrip.{rt-same-length}
@@ -19,11 +14,6 @@ use Rattle.expandpeak.specs.Steps.{placedApexes}
 use Rattle.expandpeak.proofs.Laws.{local-index, none-listed, one-listed}
 use Rattle.expandpeak.proofs.inner.put_listed.Statement.{statement}
 use Rattle.expandpeak.proofs.inner.put_listed.Tie as tie
-use Rattle.expandpeak.proofs.inner.put_listed.Reads as reads
-use Rattle.expandpeak.proofs.inner.put_listed.Lts as lts
-use Rattle.rtplace.proofs.inner.place_apex.Reads as place-apex-reads
-use Rattle.rtrecord.proofs.inner.put_rt_peak.Reads as put-rt-peak-reads
-use Rattle.rtsearch.proofs.inner.local_peak.Reads as local-peak-reads
 
 abbrev Inv-loop : tie.InvT-loop
 Inv-loop y x t found order n lo ids p first out₀ k₀ out k = (length out ≡ length out₀) × (k ≤ n) × Put (placedApexes lo ids p y x t (map (indexAt found) (take k order)) first) out₀ k out
@@ -31,13 +21,11 @@ Inv-loop y x t found order n lo ids p first out₀ k₀ out k = (length out ≡ 
 abbrev μ-loop : tie.MeasureT-loop
 μ-loop y x t found order n lo ids p first out₀ k₀ out k = n - k
 
--- src/inner.rt:36:5
 loop-holds : tie.Need-loop-holds Inv-loop μ-loop
 loop-holds c = let s = c .before .before .before .before .before .before .before in
     let g = s .args in
     (refl, omega arith, none-listed (g .y .now) (g .x .now) (g .t .now) (g .found .now) (g .order .now) (g .lo) (g .ids .now) (g .p) (g .first) (g .out .now))
 
--- src/inner.rt:37:13
 local-peak-requires : tie.Need-local-peak-requires Inv-loop μ-loop
 local-peak-requires c κs = let l = c .before in
     let s = l .before .before .before .before .before .before .before .before in
@@ -46,15 +34,12 @@ local-peak-requires c κs = let l = c .before in
     let short = s .pre .short in
     (omega arith, s .pre .stand (l .loop .k) (omega arith), s .pre .raw, s .pre .times, omega arith)
 
--- src/inner.rt:39:76
 cast-place-apex : tie.Need-cast-place-apex Inv-loop μ-loop
 cast-place-apex c = search needs
 
--- src/inner.rt:39:68
 add-place-apex : tie.Need-add-place-apex Inv-loop μ-loop
 add-place-apex c = search needs
 
--- src/inner.rt:39:13
 place-apex-requires : tie.Need-place-apex-requires Inv-loop μ-loop
 place-apex-requires c κs = let i = c .before .before in
     let l = i .before in
@@ -66,23 +51,19 @@ place-apex-requires c κs = let i = c .before .before in
     ap (λ (q : RtLocalPeak). q .apex .«rt_idx») (c .before .local-peak .ensures) ∙ local-index (g .y .now) (g .x .now) (g .t .now) _ in
     (omega arith, s .pre .frames, s .pre .short, omega (arith, at, high))
 
--- src/inner.rt:40:9
 put-rt-peak-requires : tie.Need-put-rt-peak-requires Inv-loop μ-loop
 put-rt-peak-requires c κs = let l = c .before .before .before .before .before in
     let s = l .before .before .before .before .before .before .before .before in
     omega (arith, s .pre .room, l .loop .inv .0)
 
--- src/inner.rt:41:9
 add-k : tie.Need-add-k Inv-loop μ-loop
 add-k c = let l = c .before .before .before .before .before .before .before .before in
     let s = l .before .before .before .before .before .before .before .before in
     omega (arith, s .pre .named, l .loop .inv .1)
 
--- src/inner.rt:36:5
 loop-less : tie.Need-loop-less Inv-loop μ-loop
 loop-less c = search needs
 
--- src/inner.rt:36:5
 loop-again : tie.Need-loop-again Inv-loop μ-loop
 loop-again c = let w = c .before .before in
     let a = w .before .before in
@@ -101,11 +82,9 @@ loop-again c = let w = c .before .before in
       rw (w .put-rt-peak .ensures) (one-listed (g .y .now) (g .x .now) (g .t .now) (g .found .now) (g .order .now) (g .lo) (g .ids .now) (g .p) (g .first) (g .out .now) (l .loop .out) k (a .place-apex .result) (omega arith) (l .loop .inv .2) peak),
     )
 
--- src/inner.rt:19:1
 same-length : tie.Need-same-length Inv-loop μ-loop
 same-length c = c .before .loop .inv .0
 
--- src/inner.rt:19:1
 returns : tie.Need-returns Inv-loop μ-loop
 returns c = let l = c .before in
     let s = l .before .before .before .before .before .before .before .before in
