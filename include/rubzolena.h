@@ -1,4 +1,5 @@
-/* Grid detection, stitching, the frame index, marginals and retention traces of Rubzolena, from the static library librubzolena.a ('make library').
+/* Grid detection, stitching, the frame index, marginals, retention traces and expansion along retention time of Rubzolena, from the
+ * static library librubzolena.a ('make library').
  *
  * A list is words of 32 bits; a float in it is the word of its IEEE 754 binary32 bit pattern. Grid detection takes its lists as
  * bytes, four a word, the lowest first, asks for no alignment, and counts a length in bytes. The other functions take words and
@@ -15,7 +16,7 @@
  *   - while a function runs nobody else writes to any of its lists, nor reads from those that are written.
  *
  * The functions keep nothing, allocate nothing and need less than 1 MiB of stack (some 0.5 MiB for rows of more than 1,024
- * columns). They may be called from several threads at once, each with written lists of its own. */
+ * columns, traces of more than 1,024 frames). They may be called from several threads at once, each with written lists of its own. */
 #ifndef RUBZOLENA_H
 #define RUBZOLENA_H
 
@@ -32,21 +33,40 @@ extern "C" {
  * right_x, area_raw and subscan. A field whose flag is clear is missing, and its word is written as 0. docs/SCOPE.md says what each is. */
 #define RUBZOLENA_RECORD_WORDS 27
 
+/* Words of the record of a retention peak, in this order: rt_idx, rt_sec, apex_smoothed, apex_raw, prominence, left_x, right_x,
+ * width_frames, area_raw, subframe, rt_lo, rt_hi, frame_id_lo, frame_id_hi, flags (bit 0 group), window_group, tof_row, tof_center, tof_lo,
+ * tof_hi, parent_im_id, id. Floats are rt_sec to right_x, area_raw and subframe. The fields from flags to parent_im_id are those of its
+ * mobility peak; a missing window_group is written as 0. */
+#define RUBZOLENA_RT_RECORD_WORDS 22
+
+/* Words of the record of a retention peak of a lone trace: the first ten of the above, then left_sec, right_sec and width_sec, floats. */
+#define RUBZOLENA_LOCAL_RECORD_WORDS 13
+
+/* Words of a window: its first frame, its last frame, by place in the run, and sigma, a float. */
+#define RUBZOLENA_WINDOW_WORDS 3
+
+/* The kinds of a threshold, which is handed over as the number of its kind and a float. Any other number of a kind is answered with 4. */
+enum {
+    RUBZOLENA_FIXED = 0,         /* the float, or 3 times the noise of the smoothed trace where there is noise and that is higher */
+    RUBZOLENA_ADAPTIVE_NOISE = 1 /* the noise of the smoothed trace times the float, or 1 where there is no noise */
+};
+
 /* The numbers, of which the lowest that applies is answered: 1 to 7, 20 and 22 by grid detection; 1, 2, 4, 8, 9, 20 and 21 by
  * stitching; 1 to 5 and 20 to 22 by a frame's part of an index; 1 to 5, 20 and 23 by marginals and traces, by bounds also 22, and
- * for many peaks also 9 and 21. */
+ * for many peaks also 9 and 21; 2 and 3 by the noise; 1 to 4, 7, 20 and 21 by a trace's retention peaks; 1 to 4, 7, 9 and 20 by
+ * the fallback, and but for 3 by a window; all but 8 by expansion. */
 enum {
     RUBZOLENA_LENGTHS = 1,            /* lengths that must agree do not, a list is no whole words or records, or rows and num_bins differ */
     RUBZOLENA_TOO_LARGE = 2,          /* more than 4,194,304 rows, 16,384 columns or frames, 65,536 peaks, or 16,777,216 points or bins */
     RUBZOLENA_READING = 3,            /* a reading not from 0 to 2^32 */
-    RUBZOLENA_PARAMETER = 4,          /* a parameter or a mobility out of range, a reversed range, or identities that could run out */
+    RUBZOLENA_PARAMETER = 4,          /* a parameter, a time or a mobility out of range, a reversed range, or identities that could run out */
     RUBZOLENA_TOF_OR_SCAN = 5,        /* a TOF value or a scan out of range */
     RUBZOLENA_WEIGHTS = 6,            /* weights of another form */
-    RUBZOLENA_NOT_RISING = 7,         /* scans that do not strictly rise */
+    RUBZOLENA_NOT_RISING = 7,         /* scans or frame numbers that do not strictly rise, or times that fall */
     RUBZOLENA_IDENTITY_TWICE = 8,     /* two peaks to stitch with one identity */
     RUBZOLENA_RECORD = 9,             /* a record with reversed bounds or a field out of range */
     RUBZOLENA_LIST_TOO_SHORT = 20,    /* a list for results has less room than the sizes allow peaks, points or sums */
-    RUBZOLENA_SCRATCH_TOO_SHORT = 21, /* scratch shorter than the list of peaks or points */
+    RUBZOLENA_SCRATCH_TOO_SHORT = 21, /* scratch shorter than the list of peaks, points or frames */
     RUBZOLENA_SCALE = 22,             /* a scale whose numbers disagree */
     RUBZOLENA_INDEX = 23              /* a frame index of another form */
 };
@@ -295,6 +315,157 @@ uint64_t rubzolena_rt_traces_for_im_peaks_by_bounds(
     uint32_t extra_bins_pad,
     float *out, size_t out_len,
     uint32_t *windows, size_t windows_len);
+
+/* The noise of a trace: 1.4826 times the middle distance of its readings from the middle one, where the middle one of n is that at place
+ * n / 2, rounded down, of the ascending list, counted from 0. Fewer than three readings have the noise 0.
+ *
+ * signal           readings, floats from 0 to 2^33 (3), to 16,384 of them (2)
+ *
+ * Returns 64 times the bit pattern of the noise; or, from 1 to 63, the number that says why nothing was done. */
+uint64_t rubzolena_robust_noise_mad(const float *signal, size_t signal_len);
+
+/* The retention peaks of a trace. n is the count of its frames.
+ *
+ * y_smoothed       the smoothed trace, floats from 0 to 2^33 (3), to 16,384 of them (2)
+ * y_raw            the raw trace, n floats (1) from 0 to 2^32 (3)
+ * times            the time of each frame (1) in seconds, from 0 to 2^20 (4), not falling (7)
+ * min_prom_kind, min_prom   the threshold: its kind (4) and a float from 0 to 2^33 (4). What it comes to for this trace is the floor for
+ *                  prominences, which the highest raw reading must reach too
+ * min_sep_sec      the least separation of two apexes in seconds, from 0 to 2^20 (4)
+ * min_width_sec    the least width at half height in seconds, from 0 to 2^20 (4)
+ * out              room for as many records of 13 words as the sizes allow peaks (20): (n - 1) / 2, divided without a rest, 0 where n is 0
+ * scratch          n words (21)
+ *
+ * Returns 64 times the count of peaks, whose records then stand at the front of out, by time of the apex, those of equal times by
+ * falling height and then by frame; past them out is as it was, and scratch may have changed in its first n words. Or returns, from 1
+ * to 63, the number that says why nothing was done, and both lists are as they were. 0 is a count of 0. */
+uint64_t rubzolena_find_rt_peaks(
+    const float *y_smoothed, size_t y_smoothed_len,
+    const float *y_raw, size_t y_raw_len,
+    const float *times, size_t times_len,
+    uint32_t min_prom_kind, float min_prom, float min_sep_sec, float min_width_sec,
+    uint32_t *out, size_t out_len,
+    uint32_t *scratch, size_t scratch_len);
+
+/* The one retention peak of a trace that is not searched: its height is the highest reading, its place the centre of mass, its ends are
+ * where the trace falls to a share of the height. Where it does not fall so far an end is extrapolated: it can lie outside of the trace, or
+ * on the other side of the other end. Frames are counted from the first of the trace.
+ *
+ * trace            readings, floats from 0 to 2^32 (3), to 16,384 of them (2)
+ * ids              frame numbers, strictly rising (7), to 16,384 of them (2); past the last one that one stands for the others. Or empty:
+ *                  the mobility peak's own are taken
+ * times            times in seconds, from 0 to 2^20 (4), not falling (7), at least one a reading (1), to 16,384 of them (2)
+ * peak             the record of the mobility peak (1), with every field in its range, as for stitching (9)
+ * frac             the share, from 0 to 1 (4)
+ * first            the identity of the peak
+ * out              room for a record of 22 words (20)
+ *
+ * Returns 64 where there is a peak, whose record then stands at the front of out, past which out is as it was; 0 where no reading is above
+ * 0; or, from 1 to 63, the number that says why nothing was done. Out is then as it was. */
+uint64_t rubzolena_fallback_rt_peak(
+    const float *trace, size_t trace_len,
+    const uint32_t *ids, size_t ids_len,
+    const float *times, size_t times_len,
+    const uint32_t *peak, size_t peak_len,
+    float frac, uint32_t first,
+    uint32_t *out, size_t out_len);
+
+/* Expansion takes two calls. This is the first: over which frames a mobility peak is followed, and the sigma of its smoothing in frames,
+ * of which the caller makes the weights that the second call takes.
+ *
+ * peak             the record of the mobility peak (1), with every field in its range, as for stitching (9)
+ * ids              the frame numbers of the run, strictly rising (7), to 16,384 of them (2)
+ * times            the time of each frame (1) in seconds, from 0 to 2^20 (4), not falling (7)
+ * bin_pad .. rt_pad_frames   the parameters of expansion, all of which are judged:
+ *   bin_pad            by how many bins on either side the mobility peak's are widened, to 65,535 (4)
+ *   smooth_sigma_sec   the sigma of the smoothing in seconds, from 0 to 2^20 (4)
+ *   min_prom_kind, min_prom, min_sep_sec, min_width_sec   as for a trace's retention peaks (4)
+ *   fallback_if_frames_lt   a window of fewer frames is not searched but left to the fallback, to 65,535 (4)
+ *   fallback_frac_width     the fallback's share, from 0 to 1 (4)
+ *   rt_pad_frames      by how many frames on either side the window is widened, within the run, to 65,535 (4)
+ * out              room for 3 words (20), whether there is a window or not
+ *
+ * Returns 64 where there is a window: out then begins with its first frame, its last frame and the bits of sigma, which is
+ * smooth_sigma_sec divided by the middle time step over the window (at least 0.001 s; 1 s for one frame), at least 0.75. Returns 0 where a
+ * frame number of the peak is not among ids; or, from 1 to 63, the number that says why nothing was done. Out is then as it was. */
+uint64_t rubzolena_expand_window(
+    const uint32_t *peak, size_t peak_len,
+    const uint32_t *ids, size_t ids_len,
+    const float *times, size_t times_len,
+    uint32_t bin_pad, float smooth_sigma_sec, uint32_t min_prom_kind, float min_prom, float min_sep_sec, float min_width_sec,
+    uint32_t fallback_if_frames_lt, float fallback_frac_width, uint32_t rt_pad_frames,
+    uint32_t *out, size_t out_len);
+
+/* The second call: the retention peaks of a mobility peak. Its readings are summed frame by frame over its window (bins of tof_lo to tof_hi
+ * with bin_pad more on either side, scans left_abs to right_abs), smoothed and searched. Where no peak is listed, or the window has fewer
+ * frames than fallback_if_frames_lt, the fallback answers, with times from the start of the run (docs/DIFFERENCES.md). Where there is
+ * no window, or no reading above 0 in it, there is none. f is the count of frames of the run, m the greater of 1 and (f - 1) / 2, divided
+ * without a rest.
+ *
+ * peak             the record of the mobility peak (1), with every field in its range, as for stitching (9)
+ * starts .. readings   the index (1, 2, 3, 5, 23), as for marginals
+ * ids, times       frame numbers and times, one a frame (1), as for the first call (4, 7)
+ * tof_min, tof_max, tof_step, num_bins   the scale, as above (4, 5, 22)
+ * bin_pad .. rt_pad_frames   the parameters, as for the first call (4)
+ * weights          smoothing weights before division by their sum: an odd count to 257, each from 0 to 1, the middle one 1 (6); not empty,
+ *                  and judged even where nothing is smoothed
+ * first            the identity of the first peak; first + m must not pass 2^32 (4)
+ * out              room for m records of 22 words (20)
+ * raw, smooth, order   scratch: f floats or words each (21)
+ *
+ * Returns 64 times the count of peaks, whose records then stand at the front of out, in the order of rubzolena_find_rt_peaks; past them
+ * out is as it was, and scratch may have changed in its first f places. Or returns, from 1 to 63, the number that says why nothing was
+ * done, and all four lists are as they were. 0 is a count of 0. */
+uint64_t rubzolena_expand_im_peak(
+    const uint32_t *peak, size_t peak_len,
+    const uint32_t *starts, size_t starts_len,
+    const uint32_t *bins, size_t bins_len,
+    const uint32_t *offsets, size_t offsets_len,
+    const uint32_t *scans, size_t scans_len,
+    const float *readings, size_t readings_len,
+    const uint32_t *ids, size_t ids_len,
+    const float *times, size_t times_len,
+    uint32_t tof_min, uint32_t tof_max, uint32_t tof_step, uint32_t num_bins,
+    uint32_t bin_pad, float smooth_sigma_sec, uint32_t min_prom_kind, float min_prom, float min_sep_sec, float min_width_sec,
+    uint32_t fallback_if_frames_lt, float fallback_frac_width, uint32_t rt_pad_frames,
+    const float *weights, size_t weights_len,
+    uint32_t first,
+    uint32_t *out, size_t out_len,
+    float *raw, size_t raw_len,
+    float *smooth, size_t smooth_len,
+    uint32_t *order, size_t order_len);
+
+/* The same for all peaks of a list, over an index that is judged once. n is the count of its records.
+ *
+ * list             records, whole ones (1), to 65,536 of them (2), each as above (9); identities may be equal, and window groups differ
+ * weights          the weights of all peaks, joined; each peak's as above (6)
+ * lengths          for each peak (1) how many weights it has; their sum is the count of weights (1)
+ * first            first + n * m must not pass 2^32 (4)
+ * out              room for n * m records of 22 words (20)
+ * counts           a word a peak (20)
+ *
+ * Returns 64 times the count of all retention peaks. Their records stand at the front of out, mobility peak after mobility peak, with
+ * identities that run on, and at the front of counts how many each mobility peak has. */
+uint64_t rubzolena_expand_many_im_peaks(
+    const uint32_t *list, size_t list_len,
+    const uint32_t *starts, size_t starts_len,
+    const uint32_t *bins, size_t bins_len,
+    const uint32_t *offsets, size_t offsets_len,
+    const uint32_t *scans, size_t scans_len,
+    const float *readings, size_t readings_len,
+    const uint32_t *ids, size_t ids_len,
+    const float *times, size_t times_len,
+    uint32_t tof_min, uint32_t tof_max, uint32_t tof_step, uint32_t num_bins,
+    uint32_t bin_pad, float smooth_sigma_sec, uint32_t min_prom_kind, float min_prom, float min_sep_sec, float min_width_sec,
+    uint32_t fallback_if_frames_lt, float fallback_frac_width, uint32_t rt_pad_frames,
+    const float *weights, size_t weights_len,
+    const uint32_t *lengths, size_t lengths_len,
+    uint32_t first,
+    uint32_t *out, size_t out_len,
+    uint32_t *counts, size_t counts_len,
+    float *raw, size_t raw_len,
+    float *smooth, size_t smooth_len,
+    uint32_t *order, size_t order_len);
 
 #ifdef __cplusplus
 }

@@ -80,5 +80,32 @@ int main(void) {
     expect("by bounds", rubzolena_rt_trace_for_im_peak_by_bounds(starts, 2, bins, 1, offsets, 2, cut, 2, kept, 2, 0, 9, 1, 10, 9, 9, 0, 0, 4, sums, 2), 64);
     expect("a marginal", rubzolena_build_rt_marginal(starts, 2, bins, 1, offsets, 2, cut, 2, kept, 2, 0, 0, 9, 9, 0, 4, sums, 2), 64);
     expect("a marginal past the frames", rubzolena_build_im_marginal(starts, 2, bins, 1, offsets, 2, cut, 2, kept, 2, 0, 1, 9, 9, 0, 4, sums, 2), RUBZOLENA_PARAMETER);
+
+    const float quiet[3] = {1.0f, 1.0f, 2.0f}, hill[3] = {0.0f, 4.0f, 0.0f}, times[3] = {1.0f, 2.0f, 3.0f};
+    const uint32_t ids[3] = {5, 6, 7};
+    uint32_t mobility[RUBZOLENA_RECORD_WORDS] = {0}, found[RUBZOLENA_RT_RECORD_WORDS + 1], window[RUBZOLENA_WINDOW_WORDS + 1];
+    memset(found, 0xaa, sizeof found);
+    memset(window, 0xaa, sizeof window);
+    expect("no noise without a signal", rubzolena_robust_noise_mad(NULL, 0), 0);
+    expect("no noise", rubzolena_robust_noise_mad(quiet, 3), 0);
+    expect("a trace's peak", rubzolena_find_rt_peaks(hill, 3, hill, 3, times, 3, RUBZOLENA_FIXED, 1.0f, 0.0f, 0.0f, found, RUBZOLENA_LOCAL_RECORD_WORDS, scratch, 3), 64);
+    expect("its frame", found[0], 1);
+    expect("its time", found[1], 0x40000000);
+    expect("the word after it", found[RUBZOLENA_LOCAL_RECORD_WORDS], 0xaaaaaaaa);
+    expect("a threshold of no kind", rubzolena_find_rt_peaks(hill, 3, hill, 3, times, 3, 2, 1.0f, 0.0f, 0.0f, found, 13, scratch, 3), RUBZOLENA_PARAMETER);
+    expect("no frames to search", rubzolena_find_rt_peaks(NULL, 0, NULL, 0, NULL, 0, RUBZOLENA_ADAPTIVE_NOISE, 3.0f, 0.0f, 0.0f, NULL, 0, NULL, 0), 0);
+    expect("a fallback", rubzolena_fallback_rt_peak(hill, 3, ids, 3, times, 3, mobility, RUBZOLENA_RECORD_WORDS, 0.5f, 9, found, RUBZOLENA_RT_RECORD_WORDS), 64);
+    expect("its identity", found[21], 9);
+    expect("the word after it", found[RUBZOLENA_RT_RECORD_WORDS], 0xaaaaaaaa);
+    expect("no trace", rubzolena_fallback_rt_peak(NULL, 0, NULL, 0, NULL, 0, mobility, RUBZOLENA_RECORD_WORDS, 0.5f, 9, found, RUBZOLENA_RT_RECORD_WORDS), 0);
+    expect("no window", rubzolena_expand_window(mobility, RUBZOLENA_RECORD_WORDS, ids, 3, times, 3, 0, 0.5f, 0, 0.0f, 0.0f, 0.0f, 3, 0.25f, 0, window, 3), 0);
+    expect("no room for a window", rubzolena_expand_window(mobility, RUBZOLENA_RECORD_WORDS, ids, 3, times, 3, 0, 0.5f, 0, 0.0f, 0.0f, 0.0f, 3, 0.25f, 0, NULL, 0), RUBZOLENA_LIST_TOO_SHORT);
+    mobility[6] = 6;
+    mobility[7] = 7;
+    expect("a window", rubzolena_expand_window(mobility, RUBZOLENA_RECORD_WORDS, ids, 3, times, 3, 0, 2.0f, 0, 0.0f, 0.0f, 0.0f, 3, 0.25f, 0, window, 3), 64);
+    expect("its first frame", window[0], 1);
+    expect("its last", window[1], 2);
+    expect("its sigma", window[2], 0x40000000);
+    expect("the word after it", window[3], 0xaaaaaaaa);
     return failed;
 }

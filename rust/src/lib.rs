@@ -1,5 +1,5 @@
-//! Rubzolena's grid detection, stitching, frame index, marginals and retention traces for Rust programs: safe functions over the C
-//! entries. Words and floats are handed over as they lie in memory, which is the byte rule of grid detection on a little-endian machine.
+//! Rubzolena's grid detection, stitching, frame index, marginals, retention traces and expansion along retention time for Rust programs:
+//! safe functions over the C entries. Words and floats are handed over as they lie in memory, which is the byte rule of grid detection on a little-endian machine.
 #[cfg(not(target_endian = "little"))]
 compile_error!("the C entry takes little-endian words");
 
