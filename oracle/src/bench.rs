@@ -6,7 +6,7 @@ use crate::grid_level::{grid, rust_grid, rust_params, Lists};
 use crate::inputs::Rng;
 use crate::row_level::{gaussian, most, Row, WORDS};
 use crate::shapes::{named, Kind, KINDS, USUAL};
-use crate::{frames_bench, probe, stitch_bench, words};
+use crate::{frames_bench, probe, retention_bench, stitch_bench, words};
 use rubzolena::{Grid, TofScale};
 use std::hint::black_box;
 
@@ -339,6 +339,7 @@ pub fn run(word: &str) {
     bench.grids();
     stitch_bench::run(|what| bench.asked(what));
     frames_bench::run(|what| bench.asked(what));
+    retention_bench::run(|what| bench.asked(what));
     bench.growth();
     bench.lowest();
 }

@@ -14,6 +14,7 @@ mod inputs;
 mod leaves;
 mod probe;
 mod records;
+mod retention_bench;
 mod retention_level;
 mod row_level;
 mod rows;

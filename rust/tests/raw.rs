@@ -1,4 +1,4 @@
-//! The C entries called as no safe caller does: byte lengths that are no whole words, and flags above 1.
+//! The C entries called as no safe caller does: byte lengths that are no whole words, flags above 1, and thresholds of no kind.
 use rubzolena as _;
 
 extern "C" {
@@ -18,6 +18,17 @@ extern "C" {
         out: *mut u32, out_len: usize, owners: *mut u32, owners_len: usize,
         order: *mut u32, order_len: usize, groups: *mut u32, groups_len: usize,
         keys: *mut u32, keys_len: usize, merged: *mut u32, merged_len: usize,
+    ) -> u64;
+    fn rubzolena_find_rt_peaks(
+        y_smoothed: *const f32, y_smoothed_len: usize, y_raw: *const f32, y_raw_len: usize, times: *const f32, times_len: usize,
+        min_prom_kind: u32, min_prom: f32, min_sep_sec: f32, min_width_sec: f32,
+        out: *mut u32, out_len: usize, scratch: *mut u32, scratch_len: usize,
+    ) -> u64;
+    fn rubzolena_expand_window(
+        peak: *const u32, peak_len: usize, ids: *const u32, ids_len: usize, times: *const f32, times_len: usize,
+        bin_pad: u32, smooth_sigma_sec: f32, min_prom_kind: u32, min_prom: f32, min_sep_sec: f32, min_width_sec: f32,
+        fallback_if_frames_lt: u32, fallback_frac_width: f32, rt_pad_frames: u32,
+        out: *mut u32, out_len: usize,
     ) -> u64;
 }
 
@@ -132,5 +143,45 @@ fn a_flag_of_stitching_above_one() {
             assert_eq!(stitched([1, 1], flags, 0, 54), (4, true), "an identity twice is 8");
             assert_eq!(stitched([1, 2], flags, 0, 0), (4, true), "short buffers are 20 and 21");
         }
+    }
+}
+
+/// What a search of the trace `0 4 0` answers for a threshold, readings up to `high`, and that much room.
+fn searched(kind: u32, high: f32, room: usize) -> (u64, bool) {
+    let (y, times, mut out, mut scratch) = ([0.0, high, 0.0], [1.0f32, 2.0, 3.0], [0xa5a5_a5a5u32; 13], [0xa5a5_a5a5u32; 3]);
+    let r = unsafe {
+        rubzolena_find_rt_peaks(
+            y.as_ptr(), 3, y.as_ptr(), 3, times.as_ptr(), 3, kind, 1.0, 0.0, 0.0, out.as_mut_ptr(), room, scratch.as_mut_ptr(), 3,
+        )
+    };
+    (r, out.iter().chain(&scratch).all(|w| *w == 0xa5a5_a5a5))
+}
+
+/// What the first call answers for a peak in a run of three frames, and whether its list is as it was.
+fn first_call(kind: u32, time: f32, room: usize) -> (u64, bool) {
+    let (mut peak, ids, times, mut out) = ([0u32; 27], [5u32, 6, 7], [1.0f32, 2.0, time], [0xa5a5_a5a5u32; 3]);
+    (peak[6], peak[7]) = (5, 7);
+    let r = unsafe {
+        rubzolena_expand_window(
+            peak.as_ptr(), 27, ids.as_ptr(), 3, times.as_ptr(), 3, 0, 0.5, kind, 1.0, 0.0, 0.0, 3, 0.25, 0, out.as_mut_ptr(), room,
+        )
+    };
+    (r, out.iter().all(|w| *w == 0xa5a5_a5a5))
+}
+
+#[test]
+fn a_threshold_of_no_kind() {
+    for kind in [0, 1] {
+        assert_eq!(searched(kind, 4.0, 13), (64, false));
+        assert_eq!(first_call(kind, 3.0, 3), (64, false));
+        assert_eq!(first_call(kind, 3.0, 2), (20, true), "a short list");
+    }
+    for kind in [2, 3, u32::MAX] {
+        assert_eq!(searched(kind, 4.0, 13), (4, true), "the kind alone");
+        assert_eq!(searched(kind, 4.0, 0), (4, true), "a short list is 20");
+        assert_eq!(searched(kind, -4.0, 13), (3, true), "a reading out of range is lower");
+        assert_eq!(first_call(kind, 3.0, 3), (4, true), "the kind alone");
+        assert_eq!(first_call(kind, 1.0, 3), (4, true), "times that fall are 7");
+        assert_eq!(first_call(kind, 3.0, 0), (4, true), "a short list is 20");
     }
 }
