@@ -436,7 +436,9 @@ pub fn corners() -> Vec<(&'static str, Expand)> {
         ("a run of one frame", call(&[4.0], 100, 100, plain)),
         ("no frames", call(&[], 100, 100, plain)),
         ("no apex: the fallback after a search", call(&[0.0, 0.0, 0.0, 1.0, 2.0, 3.0, 4.0, 5.0], 103, 107, plain)),
-        ("fallback bounds reversed", call(&[10.0, 9.0, 10.5, 1.0, 0.0, 0.0, 0.0, 0.0], 100, 107, RtExpandParams { fallback_if_frames_lt: 9, ..plain })),
+        ("the second of two frames has the time of the first", call(&[0.0, 4.0], 101, 101, plain)),
+        ("fallback bounds reversed, 3 and 2", call(&[5.0, 4.0, 6.0, 6.0], 100, 103, RtExpandParams { fallback_if_frames_lt: 9, ..plain })),
+        ("fallback bounds reversed, 7 and 3", call(&[10.0, 9.0, 10.5, 1.0, 0.0, 0.0, 0.0, 0.0], 100, 107, RtExpandParams { fallback_if_frames_lt: 9, ..plain })),
         ("a least length of 0: two frames are searched, then left to the fallback", call(&hills, 101, 102, RtExpandParams { fallback_if_frames_lt: 0, ..plain })),
         ("a trace of one height", call(&[7.0; 9], 100, 108, plain)),
     ]
