@@ -36,7 +36,7 @@ pub struct View {
 pub type Buffers = [Vec<u32>; 7];
 
 /// What an index has of a frame: bins, offsets, scans and readings, as bits.
-type Part = [Vec<u32>; 4];
+pub type Part = [Vec<u32>; 4];
 
 fn part(bins: &[usize], offsets: &[usize], scans: &[u32], readings: &[f32], base: usize) -> Part {
     [
@@ -105,7 +105,7 @@ impl View {
     }
 
     /// The Rust's, with the sort that keeps the order.
-    fn stable(&self) -> Part {
+    pub fn stable(&self) -> Part {
         let (s, r) = (rust_scale(&self.scale), self.rust_frame());
         let s = stable::utility::TofScale { tof_min: s.tof_min, tof_max: s.tof_max, tof_step: s.tof_step, edges: s.edges, centers: s.centers };
         let v = stable::peak::build_frame_bin_view(r, &s, self.count as usize);
@@ -246,7 +246,7 @@ pub fn sample(r: &mut Rng, n: usize, scale: TofScale, base: usize) -> View {
 }
 
 /// Makes something wrong, or brings it to its limit.
-fn spoil(r: &mut Rng, c: &mut View) {
+pub fn spoil(r: &mut Rng, c: &mut View) {
     let n = c.tofs.len();
     let at = r.below(n.max(1) as u64) as usize;
     match r.below(14) {
@@ -640,7 +640,7 @@ fn bad(r: &mut Rng, limit: u32) -> u32 {
 }
 
 /// Makes something of a call on an index wrong, or brings it to its limit.
-fn spoil_sums(r: &mut Rng, c: &mut Sums) {
+pub fn spoil_sums(r: &mut Rng, c: &mut Sums) {
     let i = &mut c.index;
     let at = |r: &mut Rng, n: usize| r.below(n.max(1) as u64) as usize;
     let (s, b, o, p) = (at(r, i.starts.len()), at(r, i.bins.len()), at(r, i.offsets.len()), at(r, i.scans.len()));
