@@ -71,7 +71,7 @@ fn main() {
                 ("rows", row_level::compare, 2),
                 ("grids", grid_level::compare, 10),
                 ("stitching", stitch_level::compare, 4),
-                ("frames", frames_level::compare, 4),
+                ("frames", frames_level::compare, 2),
             ];
             let mut tally = Tally { compared: 0, differ: 0 };
             for (name, compare, fewer) in levels {
