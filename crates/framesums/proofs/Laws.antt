@@ -2,7 +2,7 @@
 use mathlib.Core.Path.{_≡_, refl, sym, ap, _∙_}
 use mathlib.Core.Bool.{Bool, true, false, cond, _||_}
 use mathlib.Core.List.{List, [], _∷_, _++_, map, map-append, append-assoc}
-use Prim.Native.Nat.{ℕ, zero, suc, _≤_, _<_, _+_, _-_}
+use Prim.Native.Nat.{ℕ, zero, suc, _≤_, _<_, _+_, _-_, _*_, _/_}
 use native.Mathlib.Numerals.{add-one}
 use native.Mathlib.Omega.{arith}
 use borrow.Author.Tests.{le-leb, lt-leb, ltb-true, ltb-false, eqb-true, eqb-false}
@@ -158,6 +158,19 @@ any-end w scans n i j any h e = let z : n - i ≡ 0 = omega arith in sym (or-fal
 
 -- ---- the search
 
+-- a step that is taken or not
+pub step-most : (h d : ℕ) (t : Bool) → d ≡ cond t 1 0 → h * d ≤ h
+step-most h d true e = rw e (omega arith)
+step-most h d false e = rw e (omega arith)
+
+-- a test, reckoned
+pub below-is : (a b : ℕ) → a < 4294967296 → b < 4294967296 → 1 - (a + 4294967296 - b) / 4294967296 ≡ cond (ltb a b) 1 0
+below-is a b h k = go (ltb a b) refl
+  where
+    go : (t : Bool) → ltb a b ≡ t → 1 - (a + 4294967296 - b) / 4294967296 ≡ cond t 1 0
+    go true t = let l = ltb-true a b t in omega arith
+    go false t = let l = ltb-false a b t in omega arith
+
 -- places before r have bins below x, those from n past it on have bins of x at least
 pub record Halved (bins : List ℕ) (from to x r n : ℕ) : Type 0 where
   pub some : 0 < n
@@ -185,7 +198,7 @@ module _ (bins : List ℕ) (from to x : ℕ) (rise : Rising bins from to) where
       }
 
   -- the bin halfway is below x, or it is not
-  pub halved-up : (r n h : ℕ) → Halved bins from to x r n → h < n → getD bins (r + h) 0 < x → Halved bins from to x (r + h) (n - h)
+  halved-up : (r n h : ℕ) → Halved bins from to x r n → h < n → getD bins (r + h) 0 < x → Halved bins from to x (r + h) (n - h)
   halved-up r n h g k b =
       let after : from ≤ r = g .after in
       let before : r + n ≤ to = g .before in
@@ -197,7 +210,7 @@ module _ (bins : List ℕ) (from to x : ℕ) (rise : Rising bins from to) where
         high = λ j a d. g .high j (omega arith) d;
       }
 
-  pub halved-down : (r n h : ℕ) → Halved bins from to x r n → h + h ≤ n → 0 < h → x ≤ getD bins (r + h) 0 → Halved bins from to x r (n - h)
+  halved-down : (r n h : ℕ) → Halved bins from to x r n → h + h ≤ n → 0 < h → x ≤ getD bins (r + h) 0 → Halved bins from to x r (n - h)
   halved-down r n h g k z b =
       let after : from ≤ r = g .after in
       let before : r + n ≤ to = g .before in
@@ -209,8 +222,22 @@ module _ (bins : List ℕ) (from to x : ℕ) (rise : Rising bins from to) where
         high = λ j a d. omega (arith, rise-le bins from to (r + h) j rise (omega arith) (omega arith) d);
       }
 
+  -- by what the test comes to
+  pub halved-by : (r n h d : ℕ) → Halved bins from to x r n → h + h ≤ n → 0 < h → d ≡ cond (ltb (getD bins (r + h) 0) x) 1 0 → Halved bins from to x (r + h * d) (n - h)
+  halved-by r n h d g k z e = go (ltb (getD bins (r + h) 0) x) refl
+    where
+      go : (t : Bool) → ltb (getD bins (r + h) 0) x ≡ t → Halved bins from to x (r + h * d) (n - h)
+      go true t =
+          let o : d ≡ 1 = e ∙ ap (λ (b : Bool). cond b 1 0) t in
+          let m : r + h * 1 ≡ r + h = omega arith in
+          rw (o, m) (halved-up r n h g (omega arith) (ltb-true (getD bins (r + h) 0) x t))
+      go false t =
+          let o : d ≡ 0 = e ∙ ap (λ (b : Bool). cond b 1 0) t in
+          let m : r + h * 0 ≡ r = omega arith in
+          rw (o, m) (halved-down r n h g k z (ltb-false (getD bins (r + h) 0) x t))
+
   -- one place is left
-  pub halved-past : (r n : ℕ) → Halved bins from to x r n → n ≤ 1 → getD bins r 0 < x → FirstAt bins from to x (r + 1)
+  halved-past : (r n : ℕ) → Halved bins from to x r n → n ≤ 1 → getD bins r 0 < x → FirstAt bins from to x (r + 1)
   halved-past r n g k b =
       let some : 0 < n = g .some in
       let after : from ≤ r = g .after in
@@ -222,7 +249,7 @@ module _ (bins : List ℕ) (from to x : ℕ) (rise : Rising bins from to) where
         high = λ j a d. g .high j (omega arith) d;
       }
 
-  pub halved-at : (r n : ℕ) → Halved bins from to x r n → n ≤ 1 → x ≤ getD bins r 0 → FirstAt bins from to x r
+  halved-at : (r n : ℕ) → Halved bins from to x r n → n ≤ 1 → x ≤ getD bins r 0 → FirstAt bins from to x r
   halved-at r n g k b =
       let some : 0 < n = g .some in
       let after : from ≤ r = g .after in
@@ -233,6 +260,16 @@ module _ (bins : List ℕ) (from to x : ℕ) (rise : Rising bins from to) where
         low = g .low;
         high = λ j a d. omega (arith, rise-le bins from to r j rise after a d);
       }
+
+  pub halved-end : (r n d : ℕ) → Halved bins from to x r n → n ≤ 1 → d ≡ cond (ltb (getD bins r 0) x) 1 0 → FirstAt bins from to x (r + d)
+  halved-end r n d g k e = go (ltb (getD bins r 0) x) refl
+    where
+      go : (t : Bool) → ltb (getD bins r 0) x ≡ t → FirstAt bins from to x (r + d)
+      go true t = let o : d ≡ 1 = e ∙ ap (λ (b : Bool). cond b 1 0) t in rw o (halved-past r n g k (ltb-true (getD bins r 0) x t))
+      go false t =
+          let o : d ≡ 0 = e ∙ ap (λ (b : Bool). cond b 1 0) t in
+          let m : r + 0 ≡ r = omega arith in
+          rw (o, m) (halved-at r n g k (ltb-false (getD bins r 0) x t))
 
   pub first-none : from ≡ to → FirstAt bins from to x from
   first-none e =

@@ -1,7 +1,9 @@
 // Sums over the points of a checked index: those of a frame whose bins lie in a window stand side by side.
 ghost use mathlib.Core.Path.{_≡_};
+ghost use mathlib.Core.Bool.{cond};
 ghost use mathlib.Core.List.{_++_};
 ghost use Prim.Native.Nat.{ℕ, _≤_, _<_, _+_, _-_};
+ghost use lib.Dec.{ltb};
 ghost use lib.ListN.{length, getD, drop};
 ghost use Rattle.framesums.specs.Sums.{addPoints, addFrame, frameSums};
 ghost use Rattle.framesums.specs.Steps.{indexOf, Checked, Rising, FirstAt, anyIn, PointsOf};
@@ -20,6 +22,13 @@ pub struct Span {
     pub to: usize,
 }
 
+// 1 where a is below b, and else 0; reckoned, since at a branch on it the search would lose as much time as in all else.
+fn below(a: u32, b: u32) -> usize
+    ensures { λ r. ⌜ r ≡ cond (ltb a b) 1 0 ⌝ }
+{
+    1 - ((a as u64 + 4294967296 - b as u64) / 4294967296) as usize
+}
+
 // The first place whose bin is x at least, by halving.
 pub fn first_at(bins: &[u32], from: usize, to: usize, x: u32) -> usize
     requires { ⌜ (from ≤ to) × (to ≤ length (now bins)) × Rising (now bins) from to ⌝ }
@@ -32,12 +41,10 @@ pub fn first_at(bins: &[u32], from: usize, to: usize, x: u32) -> usize
     let mut n = to - from;
     while n > 1 {
         let half = n / 2;
-        if bins[base + half] < x {
-            base += half;
-        }
+        base += half * below(bins[base + half], x);
         n -= half;
     }
-    if bins[base] < x { base + 1 } else { base }
+    base + below(bins[base], x)
 }
 
 // The first place whose bin is above x, step by step, since windows are narrow.
