@@ -153,7 +153,7 @@ impl Expand {
     }
 
     /// The words of all peaks, identities running on, and the counts.
-    fn words(&self, found: &[Vec<RtPeak1D>]) -> (Vec<u32>, Vec<u32>) {
+    pub fn words(&self, found: &[Vec<RtPeak1D>]) -> (Vec<u32>, Vec<u32>) {
         let parents = self.list.chunks_exact(WORDS).map(|w| w[26]);
         let all = parents.zip(found).flat_map(|(parent, own)| own.iter().map(move |p| (parent, p)));
         let words = all.enumerate().flat_map(|(k, (parent, p))| rt_words(p, parent, self.first.wrapping_add(k as u32))).collect();
@@ -352,7 +352,7 @@ pub fn sample(r: &mut Rng) -> Expand {
 }
 
 /// Makes something wrong, or brings it to its limit.
-fn spoil(r: &mut Rng, c: &mut Expand) {
+pub fn spoil(r: &mut Rng, c: &mut Expand) {
     let at = |r: &mut Rng, n: usize| r.below(n.max(1) as u64) as usize;
     let i = &mut c.index;
     let (s, b, o, p) = (at(r, i.starts.len()), at(r, i.bins.len()), at(r, i.offsets.len()), at(r, i.scans.len()));

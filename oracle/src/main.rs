@@ -17,6 +17,7 @@ mod probe;
 mod records;
 mod retention_bench;
 mod retention_level;
+mod retention_sample;
 mod row_level;
 mod rows;
 mod sample;
@@ -93,6 +94,7 @@ fn main() {
             let (named, print): (usize, fn(u64, u32)) = match words.get(2).map(String::as_str) {
                 Some("stitching") => (1, stitch_sample::print),
                 Some("frames") => (1, frames_sample::print),
+                Some("retention") => (1, retention_sample::print),
                 _ => (0, sample::print),
             };
             let given = |k: usize, other| words.get(k + named).map_or(other, |n| n.parse().expect("a number"));
@@ -100,7 +102,7 @@ fn main() {
         }
         Some("bench") => bench::run(words.get(2).map_or("", String::as_str)),
         _ => {
-            eprintln!("usage: oracle compare [N [WORD]] | oracle sample [stitching | frames] [SEED TIMES] | oracle bench [WORD]");
+            eprintln!("usage: oracle compare [N [WORD]] | oracle sample [stitching | frames | retention] [SEED TIMES] | oracle bench [WORD]");
             std::process::exit(2);
         }
     }

@@ -131,7 +131,8 @@ pub fn axis(r: &mut Rng, n: usize) -> Vec<f32> {
 
 // ---- noise
 
-fn noise(t: &mut Tally, r: &mut Rng) {
+/// A signal, and its noise or the number.
+pub fn noise_call(r: &mut Rng) -> (Vec<f32>, Result<u32, u32>) {
     let n = if r.one_in(300) { r.pick(&[16_383, 16_384, 16_385]) } else if r.one_in(20) { limit(r) } else { length(r) };
     let mut y = match r.below(4) {
         0 => (0..n).map(|_| f32::from_bits(r.below(0x5000_0001) as u32)).collect(),
@@ -142,15 +143,20 @@ fn noise(t: &mut Tally, r: &mut Rng) {
         let at = r.below(n as u64) as usize;
         y[at] = if r.one_in(2) { any(r) } else { r.pick(&[HEIGHT, 8589935616.0, -0.0, f32::NAN]) };
     }
-    let expected = if n > 16_384 {
+    let answer = if n > 16_384 {
         Err(2)
     } else if !y.iter().all(|v| in_range(*v, HEIGHT)) {
         Err(3)
     } else {
         Ok(bits(utility::robust_noise_mad(&y)))
     };
-    let shown = if n < 12 { &y[..] } else { &[] };
-    t.same("noise", &(n, shown), robust_noise_mad(&y).map(bits), expected);
+    (y, answer)
+}
+
+fn noise(t: &mut Tally, r: &mut Rng) {
+    let (y, expected) = noise_call(r);
+    let shown = if y.len() < 12 { &y[..] } else { &[] };
+    t.same("noise", &(y.len(), shown), robust_noise_mad(&y).map(bits), expected);
 }
 
 // ---- retention peaks of a trace
@@ -280,7 +286,7 @@ fn shares(r: &mut Rng) -> Vec<f32> {
     y
 }
 
-fn sample(r: &mut Rng) -> Search {
+pub fn sample(r: &mut Rng) -> Search {
     if r.one_in(8) {
         let (y, free) = (shares(r), RtSearch { min_prom: ThresholdMode::Fixed(0.0), min_sep_sec: 0.0, min_width_sec: 0.0 });
         let times = axis(r, y.len());
@@ -324,7 +330,7 @@ fn near_share(r: &mut Rng, c: &mut Search) {
     }
 }
 
-fn spoil(r: &mut Rng, c: &mut Search) {
+pub fn spoil(r: &mut Rng, c: &mut Search) {
     let n = c.smoothed.len();
     let at = r.below(n.max(1) as u64) as usize;
     let bad = any(r);
@@ -491,7 +497,7 @@ pub fn sound_record(r: &mut Rng) -> Vec<u32> {
     }
 }
 
-fn fallbacks(t: &mut Tally, r: &mut Rng) {
+pub fn fallback_call(r: &mut Rng) -> Lone {
     let n = if r.one_in(5_000) { 16_384 } else if r.one_in(10) { limit(r).min(300) } else { r.below(9) as usize };
     let trace = match r.below(5) {
         0 => shapes::row(r, n),
@@ -523,7 +529,7 @@ fn fallbacks(t: &mut Tally, r: &mut Rng) {
             _ => c.first = r.pick(&[0, u32::MAX]),
         }
     }
-    lone(t, &c);
+    c
 }
 
 // ---- the first call
@@ -590,54 +596,79 @@ pub fn window(p: &ImPeak1D, ids: &[u32], times: &[f32], e: &RtExpandParams) -> O
     Some((lo, hi, (e.smooth_sigma_sec / dt).max(0.75)))
 }
 
-fn windows(t: &mut Tally, r: &mut Rng) {
+/// A first call.
+#[derive(Clone, Debug)]
+pub struct Windowed {
+    pub peak: Vec<u32>,
+    pub ids: Vec<u32>,
+    pub times: Vec<f32>,
+    pub params: RtExpandParams,
+    pub room: usize,
+}
+
+impl Windowed {
+    /// Document 01's number, 0 for none.
+    pub fn number(&self) -> u32 {
+        if self.peak.len() != WORDS || self.ids.len() != self.times.len() {
+            1
+        } else if self.ids.len() > 16_384 {
+            2
+        } else if !sound_params(&self.params) || !self.times.iter().all(|v| in_range(*v, SECONDS)) {
+            4
+        } else if self.ids.windows(2).any(|w| w[0] >= w[1]) || self.times.windows(2).any(|w| w[1] < w[0]) {
+            7
+        } else if !sound(&self.peak) {
+            9
+        } else if self.room < WINDOW_WORDS {
+            20
+        } else {
+            0
+        }
+    }
+
+    pub fn rust(&self) -> Option<[u32; WINDOW_WORDS]> {
+        let found = window(&peak(&self.peak), &self.ids, &self.times, &self.params);
+        found.map(|(lo, hi, sigma)| [lo as u32, hi as u32, bits(sigma)])
+    }
+}
+
+pub fn call_window(r: &mut Rng) -> Windowed {
     let n = if r.one_in(3_000) { r.pick(&[16_384, 16_385]) } else if r.one_in(10) { limit(r).min(200) } else { r.below(14) as usize };
-    let (mut ids, mut times) = (numbers(r, n), axis(r, n));
-    let mut e = params(r, &times, &[5.0]);
-    let mut w = sound_record(r);
-    let bounds = frame_bounds(r, &ids);
-    (w[6], w[7]) = bounds;
-    let mut room = WINDOW_WORDS + r.below(2) as usize;
+    let (ids, times) = (numbers(r, n), axis(r, n));
+    let params = params(r, &times, &[5.0]);
+    let mut c = Windowed { peak: sound_record(r), ids, times, params, room: WINDOW_WORDS + r.below(2) as usize };
+    (c.peak[6], c.peak[7]) = frame_bounds(r, &c.ids);
     while r.one_in(6) {
         let at = r.below(n.max(1) as u64) as usize;
         let bad = any(r);
         match r.below(7) {
-            0 => w.truncate(WORDS - 1),
-            1 => times.truncate(n.saturating_sub(1)),
-            2 | 3 => spoil_params(r, &mut e),
-            4 => room = r.pick(&[0, 1, 2]),
-            5 if at < times.len() => times[at] = r.pick(&[bad, 0.0, SECONDS]),
-            6 if n > 1 => ids[n / 2] = ids[0],
-            _ => w[5] = 0,
+            0 => c.peak.truncate(WORDS - 1),
+            1 => c.times.truncate(n.saturating_sub(1)),
+            2 | 3 => spoil_params(r, &mut c.params),
+            4 => c.room = r.pick(&[0, 1, 2]),
+            5 if at < c.times.len() => c.times[at] = r.pick(&[bad, 0.0, SECONDS]),
+            6 if n > 1 => c.ids[n / 2] = c.ids[0],
+            _ => c.peak[5] = 0,
         }
     }
-    let number = if w.len() != WORDS || ids.len() != times.len() {
-        1
-    } else if ids.len() > 16_384 {
-        2
-    } else if !sound_params(&e) || !times.iter().all(|v| in_range(*v, SECONDS)) {
-        4
-    } else if ids.windows(2).any(|w| w[0] >= w[1]) || times.windows(2).any(|w| w[1] < w[0]) {
-        7
-    } else if !sound(&w) {
-        9
-    } else if room < WINDOW_WORDS {
-        20
-    } else {
-        0
-    };
-    let (mut out, mut expected) = (lent(room), lent(room));
-    let ctx = RtTraceCtx { frame_ids_sorted: &ids, rt_times_sec: &times };
-    let answer = expand_window_into(&w, ctx, e, &mut out);
+    c
+}
+
+fn windowed(t: &mut Tally, c: &Windowed) {
+    let (mut out, mut expected) = (lent(c.room), lent(c.room));
+    let ctx = RtTraceCtx { frame_ids_sorted: &c.ids, rt_times_sec: &c.times };
+    let answer = expand_window_into(&c.peak, ctx, c.params, &mut out);
+    let number = c.number();
     let mut said = Err(number);
     if number == 0 {
-        let found = window(&peak(&w), &ids, &times, &e);
+        let found = c.rust();
         said = Ok(found.is_some());
-        if let Some((lo, hi, sigma)) = found {
-            expected[..WINDOW_WORDS].copy_from_slice(&[lo as u32, hi as u32, bits(sigma)]);
+        if let Some(w) = found {
+            expected[..WINDOW_WORDS].copy_from_slice(&w);
         }
     }
-    let shown = (n, e, room, w.get(6), w.get(7), if n < 10 { (&ids[..], &times[..]) } else { Default::default() });
+    let n = c.ids.len();
+    let shown = (n, c.params, c.room, c.peak.get(6), c.peak.get(7), if n < 10 { (&c.ids[..], &c.times[..]) } else { Default::default() });
     t.same("first call: answer", &shown, answer, said);
     t.same("first call: list", &shown, out, expected);
 }
@@ -650,8 +681,8 @@ pub fn compare(t: &mut Tally, count: u64) {
     }
     for _ in 0..count {
         traces(t, &mut r);
-        fallbacks(t, &mut r);
-        windows(t, &mut r);
+        lone(t, &fallback_call(&mut r));
+        windowed(t, &call_window(&mut r));
         if r.one_in(2) {
             noise(t, &mut r);
         }
