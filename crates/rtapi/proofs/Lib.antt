@@ -1,5 +1,4 @@
--- Laws of what C entries of the retention level are handed and answer.
-pub mod GivenLaws
+-- Laws of the words that C entries of the retention level answer.
 pub mod RtWords
 pub mod WindowWords
 pub mod SearchWords

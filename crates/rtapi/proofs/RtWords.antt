@@ -1,9 +1,8 @@
 -- The words of the noise and of the fallback.
-use mathlib.Core.Path.{_≡_, refl, ap, _∙_}
+use mathlib.Core.Path.{refl}
 use mathlib.Core.List.{List}
-use Prim.Native.Nat.{ℕ, _*_, _<_}
+use Prim.Native.Nat.{ℕ, _<_}
 use lib.Ieee.{Float}
-use Rattle.refusal.specs.Refusal.{firstOf}
 use Rattle.noise.specs.Noise.{noiseF, noiseChecks, noiseNumber}
 use Rattle.fallback.specs.FallbackNumber.{fallbackChecks, fallbackNumber, fallbackCount}
 use Rattle.entryword.specs.Word.{itself}

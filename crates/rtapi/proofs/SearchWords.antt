@@ -1,12 +1,10 @@
 -- The word of a trace's retention peaks.
-use mathlib.Core.Path.{_≡_, refl, ap, _∙_, subst, sym}
-use mathlib.Core.Bool.{Bool, true, false, cond}
+use mathlib.Core.Path.{_≡_, refl, ap, _∙_, subst}
 use mathlib.Core.List.{List, [], _∷_, _++_}
 use Prim.Native.Nat.{ℕ, _*_, _+_, _-_, _≤_, _<_, _^_}
 use native.Mathlib.Omega.{arith}
-use lib.Dec.{eqb}
 use lib.ListN.{length, drop, length-append, length-drop}
-use Rattle.rtrecord.specs.RtRecord.{localSize, localWords}
+use Rattle.rtrecord.specs.RtRecord.{localSize}
 use Rattle.rtrecord.specs.declared.RtLocalPeak.{RtLocalPeak}
 use Rattle.retention.specs.declared.RtAnswer.{RtAnswer}
 use Rattle.retention.specs.Trace.{RtCall, peakWords, peaksOf, rtChecks, rtNumber, numberFor, rtSays}
@@ -14,7 +12,7 @@ use Rattle.retention.specs.Trace as retention
 use Rattle.retention.proofs.TraceLaws.{rt-which}
 use Rattle.entryword.specs.Word.{wordOf, itself}
 use Rattle.entryword.proofs.Words.{below, first-below, word-fits, word-told}
-use Rattle.rtapi.specs.Search.{answerTo, Answered, SearchTold}
+use Rattle.rtapi.specs.Search.{Answered, SearchTold}
 
 search-small : (c : RtCall) (out scratch : List ℕ) → numberFor c out scratch < 64
 unfolding rtNumber below

@@ -2,17 +2,16 @@
 use mathlib.Core.Path.{_≡_, refl, sym, ap, _∙_, subst}
 use mathlib.Core.Bool.{Bool, true, false, cond}
 use mathlib.Core.List.{List, [], _∷_, _++_}
-use Prim.Native.Nat.{ℕ, _*_, _≤_, _<_, _^_, max}
+use Prim.Native.Nat.{ℕ, _<_, max}
 use native.Mathlib.Omega.{arith}
-use borrow.Author.Tests.{le-ltb, lt-ltb, ne-eqb, ltb-true, eqb-true}
+use borrow.Author.Tests.{ne-eqb, ltb-true, eqb-true}
 use lib.Dec.{eqb, ltb}
-use lib.ListN.{length, drop}
+use lib.ListN.{length}
 use lib.Ieee.{Float}
 use Rattle.refusal.specs.Refusal.{Check, firstOf, ascendingFrom}
 use Rattle.refusal.specs.Answers.{answerBy}
-use Rattle.refusal.proofs.Bools.{clash, both}
+use Rattle.refusal.proofs.Bools.{both}
 use Rattle.refusal.proofs.RefusalLaws.{lowest-by}
-use Rattle.limits.specs.Limits.{maxFrames}
 use Rattle.record.specs.Record.{peakAt}
 use Rattle.record.specs.declared.ImPeak1D.{ImPeak1D}
 use Rattle.rtparams.specs.declared.RtExpandParams.{RtExpandParams}
@@ -23,7 +22,7 @@ use Rattle.rtwindow.proofs.Laws.{window-in}
 use Rattle.expandwindow.specs.declared.inner.RtWindow.{RtWindow}
 use Rattle.expandwindow.specs.declared.inner.RtWindow.the-variants.{Over, Nowhere}
 use Rattle.expandwindow.specs.declared.WindowAnswer.{WindowAnswer}
-use Rattle.expandwindow.specs.declared.WindowAnswer.the-variants.{Window, NoWindow, Refused}
+use Rattle.expandwindow.specs.declared.WindowAnswer.the-variants.{Refused}
 use Rattle.expandwindow.specs.Window.{withSigma, windowOf, windowChecks, windowNumber, windowSays}
 use Rattle.expandwindow.specs.WindowLaws.{answerOf}
 use Rattle.expandwindow.proofs.WindowLaws.{number-is, ready, sound-numbers, window-which}

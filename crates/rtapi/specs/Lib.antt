@@ -1,5 +1,4 @@
 -- The definitions that the contracts of `rtapi` cite.
-pub mod Given
 pub mod Noise
 pub mod Window
 pub mod Fallback

@@ -4,7 +4,7 @@ ghost use mathlib.Core.Path.{_≡_};
 ghost use Prim.Native.Nat.{_<_, _^_};
 ghost use Rattle.retention.specs.Trace.{callOf, rtSays};
 ghost use Rattle.entryword.specs.Word.{wordOf, itself};
-ghost use Rattle.rtapi.specs.Given.{thresholdOf};
+ghost use Rattle.rtgiven.specs.Given.{thresholdOf};
 ghost use Rattle.rtapi.specs.Search.{Answered};
 
 fn word_of(answer: RtAnswer) -> u64
@@ -34,7 +34,7 @@ pub extern "C" fn rubzolena_find_rt_peaks(
     ensures { λ r. ⌜ Answered (callOf (now («y_smoothed» .entry)) (now («y_raw» .entry)) (now (times .entry)) (thresholdOf «min_prom_kind» «min_prom») «min_sep_sec» «min_width_sec»)
         (now (out .entry)) (now (out .exit)) (now (scratch .entry)) (now (scratch .exit)) r ⌝ }
 {
-    let mode = super::given::threshold(min_prom_kind, min_prom);
+    let mode = rtgiven::threshold(min_prom_kind, min_prom);
     let answer = retention::find_rt_peaks(
         y_smoothed,
         y_raw,

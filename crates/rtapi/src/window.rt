@@ -1,12 +1,11 @@
 // The first call of expansion as a C function on numbers and lists.
 use expandwindow::WindowAnswer;
-use rtparams::RtExpandParams;
 ghost use mathlib.Core.Path.{_≡_};
 ghost use mathlib.Core.List.{[], _∷_, _++_};
 ghost use Prim.Native.Nat.{_≤_, _<_};
 ghost use lib.Ieee.{binary32, toBits};
 ghost use lib.ListN.{length, drop};
-ghost use Rattle.rtapi.specs.Given.{paramsOf};
+ghost use Rattle.rtgiven.specs.Given.{paramsOf};
 ghost use Rattle.rtapi.specs.Window.{wordTo, listTo, highest, Answered};
 
 // Writes a window to the front of a list.
@@ -60,17 +59,17 @@ pub extern "C" fn rubzolena_expand_window(
         (paramsOf «bin_pad» «smooth_sigma_sec» «min_prom_kind» «min_prom» «min_sep_sec» «min_width_sec» «fallback_if_frames_lt» «fallback_frac_width» «rt_pad_frames»)
         (now (out .entry)) (now (out .exit)) r ⌝ }
 {
-    let mode = super::given::threshold(min_prom_kind, min_prom);
-    let params = RtExpandParams {
+    let params = rtgiven::expand_params(
         bin_pad,
         smooth_sigma_sec,
-        min_prom: mode,
+        min_prom_kind,
+        min_prom,
         min_sep_sec,
         min_width_sec,
         fallback_if_frames_lt,
         fallback_frac_width,
         rt_pad_frames,
-    };
+    );
     let answer = expandwindow::expand_im_peak_window(peak, ids, times, params);
     say(answer, out)
 }

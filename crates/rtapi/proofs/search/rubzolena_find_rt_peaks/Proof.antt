@@ -1,7 +1,5 @@
-use mathlib.Core.Path.{_≡_}
 use native.Mathlib.Omega.{arith}
 use borrow.Author.Needs.{needs}
-use lib.ListN.{length}
 use Rattle.rtapi.proofs.SearchWords.{search-fits, search-word}
 use Rattle.rtapi.proofs.search.rubzolena_find_rt_peaks.Statement.{statement}
 use Rattle.rtapi.proofs.search.rubzolena_find_rt_peaks.Tie as tie

@@ -1,15 +1,14 @@
 -- Thresholds and parameters that are handed over as numbers.
-use mathlib.Core.Path.{_≡_, refl, ap, _∙_}
-use mathlib.Core.Bool.{Bool, true, false, cond, _&&_}
+use mathlib.Core.Path.{_≡_, refl}
+use mathlib.Core.Bool.{Bool, true, false, _&&_}
 use Prim.Native.Nat.{ℕ, _<_}
 use native.Mathlib.Omega.{arith}
 use borrow.Author.Tests.{ne-eqb}
-use lib.Dec.{eqb}
 use lib.Ieee.{Float, neg, toBits, ofBits}
 use Rattle.numeric.specs.Numeric.{inRange}
 use Rattle.rtparams.specs.Modes.{soundMode}
 use Rattle.rtparams.specs.Expand.{soundExpand, count, seconds, isFraction}
-use Rattle.rtapi.specs.Given.{thresholdOf, paramsOf, UnknownKind}
+use Rattle.rtgiven.specs.Given.{thresholdOf, UnknownKind}
 
 unsound-mode : (kind : ℕ) (v : Float) → 1 < kind → soundMode (thresholdOf kind v) ≡ false
 unfolding soundMode inRange neg toBits ofBits

@@ -1,0 +1,2 @@
+-- The definitions that the contracts of `rtgiven` cite.
+pub mod Given
