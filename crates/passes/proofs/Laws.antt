@@ -9,21 +9,21 @@ use native.Mathlib.Omega.{arith}
 use native.Mathlib.Numerals.{add-one}
 use borrow.Author.Tests.{eqb-true, eqb-false}
 use lib.Dec.{eqb}
-use lib.ListN.{length, getD, take, drop, set, length-map, length-append, length-take, length-drop, take-append-drop, List·getD-append}
-use lib.Seq.{drop-cons, drop-drop, drop-at, take-at, take-suc, set-at, getD-at, length-take-le, getD-append-add, getD-take, getD-drop, ext-getD}
+use lib.ListN.{length, getD, take, drop, set, length-map, length-append, length-drop, take-append-drop, List·getD-append}
+use lib.Seq.{drop-cons, drop-drop, drop-at, take-at, take-suc, set-at, getD-at, length-take-le, getD-append-add, getD-take, getD-drop, ext-getD, sets, sets-eq, take-add}
 use Rattle.refusal.proofs.Bools.{both}
 use Rattle.record.specs.Record.{size, peakAt}
 use Rattle.record.proofs.RoundTrip.{own-words}
 use Rattle.record.specs.declared.ImPeak1D.{ImPeak1D}
-use Rattle.peaklist.specs.PeakList.{nth, peaksOf, listWords}
+use Rattle.peaklist.specs.PeakList.{peaksOf, listWords}
 use Rattle.peaklist.specs.PeakListLaws.{AllFit}
 use Rattle.peaklist.proofs.PeakListLaws.{peaks-length, nth-peaks, words-length, read-back}
 use Rattle.digits.specs.Sorted.{sortedBy, row, upTo}
 use Rattle.digits.proofs.SortedLaws.{at-index}
-use Rattle.digits.proofs.UpTo.{same-map, upto-get, upto-length}
+use Rattle.digits.proofs.UpTo.{front-map, same-map, upto-get, upto-length}
 use Rattle.matching.specs.declared.StitchParams.{StitchParams}
 use Rattle.keys.specs.declared.KeyRule.{KeyRule}
-use Rattle.keys.specs.declared.KeyRule.the-variants.{First, Second}
+use Rattle.keys.specs.declared.KeyRule.the-variants.{First}
 use Rattle.keys.specs.Keys.{widthOf, keyTable}
 use Rattle.keys.proofs.KeysLaws.{width-most, table-length, table-sorts}
 use Rattle.grouping.specs.Grouping.{groups, groupPeaks, passOrder, passGroups, numberIn}
@@ -110,11 +110,6 @@ module _ (f : ℕ → ℕ) (l : List ℕ) (i : ℕ) (h : i < length l) where
   next-put v e =
       let front : map f (take (suc i) l) ≡ map f (take i l) ++ (v ∷ []) = rw e (ap (map f) (take-suc l i 0 h) ∙ map-append f (take i l) (getD l i 0 ∷ [])) in
       rw (add-one, front, drop-cons l i 0 h, append-assoc) (set-at (map f (take i l)) (getD l i 0) (drop (suc i) l) v i front-length)
-
--- one more word copied from one list to the front of another
-pub next-copied : (from d : List ℕ) (i : ℕ) → i < length from → i < length d → set (take i from ++ drop i d) i (getD from i 0) ≡ take (i + 1) from ++ drop (i + 1) d
-next-copied from d i h k =
-    rw (add-one, take-suc from i 0 h, drop-cons d i 0 k, append-assoc) (set-at (take i from) (getD d i 0) (drop (suc i) d) (getD from i 0) i (length-take-le i from (omega arith)))
 
 -- what is the same from m on is the same from any later place on
 pub later : (x y : List ℕ) (m n : ℕ) → m ≤ n → drop m x ≡ drop m y → drop n x ≡ drop n y
@@ -232,3 +227,21 @@ module _ (params : StitchParams) (ps : List ImPeak1D) (m : ℕ) (counted : m ≡
         (same-map (λ k. getD seconds (first k) 0) (λ k. numberIn (secondGroups params ps) (first k)) (length ps)
         (λ k h. ap (λ (l : List ℕ). getD l (first k) 0) d
         ∙ column-at (numberIn (secondGroups params ps)) m back (first k) (omega (arith, counted, pass-number (First params) params ps k h))))
+
+-- ---- a record that is copied
+
+pub nine-copied : (from to : List ℕ) → 9 ≤ length from → 9 ≤ length to → sets to 0 (map (λ k. getD from k 0) (upTo 9)) ≡ take 9 from ++ drop 9 to
+unfolding upTo
+nine-copied from to h k =
+    sets-eq (map (λ k. getD from k 0) (upTo 9)) to 0 k
+    ∙ ap (λ (l : List ℕ). l ++ drop 9 to) (sym (front-map from (λ k. getD from k 0) 9 h (λ k l. refl)))
+
+-- nine words more
+pub third-copied : (from to out out′ : List ℕ) (a : ℕ) → a + 9 ≤ length from → a + 9 ≤ length to → out ≡ take a from ++ drop a to
+    → out′ ≡ take a out ++ (take 9 (drop a from) ++ drop (a + 9) out) → out′ ≡ take (a + 9) from ++ drop (a + 9) to
+third-copied from to out out′ a h k e f =
+    let l : length (take a from) ≡ a = length-take-le a from (omega arith) in
+    let front : take a (take a from ++ drop a to) ≡ take a from = take-at (take a from) (drop a to) a l in
+    let rest : drop (a + 9) (take a from ++ drop a to) ≡ drop (a + 9) to =
+    sym (drop-drop 9 a (take a from ++ drop a to)) ∙ ap (drop 9) (drop-at (take a from) (drop a to) a l) ∙ drop-drop 9 a to in
+    f ∙ rw (e, front, rest, take-add a 9 from, append-assoc)

@@ -12,16 +12,48 @@ ghost use Rattle.peaklist.specs.PeakList.{peaksOf};
 ghost use Rattle.digits.specs.Sorted.{upTo};
 ghost use Rattle.passes.specs.Steps.{recordsAt, Passed, Within, Stitched};
 
+// Copies the first nine words of one list to the front of another: all are read before one is written, so that several are moved
+// at a time.
+fn copy_nine(from: &[u32], to: &mut [u32])
+    requires { ⌜ (9 ≤ length (now from)) × (9 ≤ length (now to)) ⌝ }
+    ensures { λ _. ⌜ now (to .exit) ≡ take 9 (now (from .entry)) ++ drop 9 (now (to .entry)) ⌝ }
+{
+    let w0 = from[0];
+    let w1 = from[1];
+    let w2 = from[2];
+    let w3 = from[3];
+    let w4 = from[4];
+    let w5 = from[5];
+    let w6 = from[6];
+    let w7 = from[7];
+    let w8 = from[8];
+    to[0] = w0;
+    to[1] = w1;
+    to[2] = w2;
+    to[3] = w3;
+    to[4] = w4;
+    to[5] = w5;
+    to[6] = w6;
+    to[7] = w7;
+    to[8] = w8;
+}
+
+// Copies nine words from place a on.
+fn copy_third(from: &[u32], to: &mut [u32], a: usize)
+    requires { ⌜ (a + 9 ≤ length (now from)) × (a + 9 ≤ length (now to)) ⌝ }
+    ensures { λ _. ⌜ now (to .exit) ≡ take a (now (to .entry)) ++ (take 9 (drop a (now (from .entry))) ++ drop (a + 9) (now (to .entry))) ⌝ }
+{
+    copy_nine(&from[a..], &mut to[a..]);
+}
+
 // Copies the first record of one list to the front of another.
 fn copy_record(from: &[u32], to: &mut [u32])
     requires { ⌜ (size ≤ length (now from)) × (size ≤ length (now to)) ⌝ }
     ensures { λ _. ⌜ now (to .exit) ≡ take size (now (from .entry)) ++ drop size (now (to .entry)) ⌝ }
 {
-    let mut i = 0usize;
-    while i < ImPeak1D::WORDS {
-        to[i] = from[i];
-        i += 1;
-    }
+    copy_third(from, to, 0);
+    copy_third(from, to, 9);
+    copy_third(from, to, 18);
 }
 
 // Copies the record at place p of one list to place k of another.

@@ -5,14 +5,10 @@ mod levels;
 mod lines;
 mod scales;
 
+use hexlines::Reading;
+use hexlines::Tally;
 ghost use Prim.Native.Nat.{_≤_, _<_};
 ghost use lib.ListN.{length};
-
-// How many lines with words there were, and how many of them differ.
-struct Tally {
-    lines: u64,
-    differ: u64,
-}
 
 // The port's answer to a line; the floats of the line and the row to smooth are handed in.
 fn answer(
@@ -44,25 +40,14 @@ fn agrees(words: &[u32]) -> bool {
     lines::judged(words, a, &out, &v, &scratch)
 }
 
-// Counts a line that has ended, if it has words.
+// Counts a line that has ended.
 fn counted(t: Tally, words: &[u32]) -> Tally {
-    if words.len() == 0 {
-        return t;
-    }
-    let lines = std::num::wrapping_add_u64(t.lines, 1);
-    if agrees(words) {
-        return Tally {
-            lines,
-            differ: t.differ,
-        };
-    }
-    let differ = std::num::wrapping_add_u64(t.differ, 1);
-    Tally { lines, differ }
+    hexlines::counted(t, words, agrees(words))
 }
 
-// The bytes of a part of the input.
+// What has been read, and what has been counted.
 struct State {
-    reading: hexlines::Reading,
+    reading: Reading,
     tally: Tally,
 }
 

@@ -1,9 +1,13 @@
 -- What the number of a list to stitch says, and which answer it is.
 use mathlib.Core.Path.{_≡_, refl}
-use mathlib.Core.Bool.{Bool, true, false}
-use mathlib.Core.List.{List}
-use Prim.Native.Nat.{ℕ}
-use Rattle.refusal.specs.Refusal.{firstOf, ascendingFrom}
+use mathlib.Core.Bool.{Bool, true, false, cond, _&&_}
+use mathlib.Core.List.{List, [], _∷_}
+use Prim.Native.Nat.{ℕ, _<_}
+use native.Mathlib.Omega.{arith}
+use borrow.Author.Tests.{ltb-true}
+use lib.Dec.{ltb}
+use Rattle.refusal.specs.Refusal.{Check, firstOf, ascendingFrom}
+use Rattle.refusal.proofs.Bools.{both}
 use Rattle.refusal.proofs.RefusalLaws.{lowest-by, none-by, appliesFor}
 use Rattle.refusal.specs.AnswersLaws.{fromSays}
 use Rattle.refusal.proofs.AnswersLaws.{which}
@@ -30,6 +34,25 @@ module _ (told : Bool) (list : List ℕ) (params : StitchParams) (room : Rooms) 
 -- it is the lowest that applies
 pub number-lowest : StitchLowest
 number-lowest told list params room h = lowest-by (stitchChecks told list params room) (number-is told list params room) (ascending told list params room) h
+
+-- every number of a list of checks is below 64
+allUnder : List Check → Bool
+allUnder [] = true
+allUnder (c ∷ cs) = ltb (c .number) 64 && allUnder cs
+
+first-under : (cs : List Check) → allUnder cs ≡ true → firstOf cs < 64
+unfolding allUnder firstOf
+first-under [] h = omega arith
+first-under (c ∷ cs) h = go (c .applies) (both (ltb (c .number) 64) h) (first-under cs)
+  where
+    go : (b : Bool) → (ltb (c .number) 64 ≡ true) × (allUnder cs ≡ true) → (allUnder cs ≡ true → firstOf cs < 64) → cond b (c .number) (firstOf cs) < 64
+    go true e i = ltb-true (c .number) 64 (e .0)
+    go false e i = i (e .1)
+
+-- and so is the number of a list, so that an entry can answer it beside 64 times a count
+pub number-under : (told : Bool) (list : List ℕ) (params : StitchParams) (room : Rooms) → stitchNumber told list params room < 64
+unfolding allUnder
+number-under told list params room = rw (number-is told list params room) (first-under (stitchChecks told list params room) refl)
 
 -- an answer is told by what it says
 again : (r : StitchAnswer) → r ≡ fromSays Stitched Refused (stitchSays r)

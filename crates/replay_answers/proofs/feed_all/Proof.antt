@@ -40,7 +40,7 @@ loop-less c = search needs
 loop-again : tie.Need-loop-again Inv-loop μ-loop
 loop-again c = let f = c .before .before .before .feed in
     let l = c .before .before .before .before .before .before .before .loop in
-    (omega arith, f .kept .0 ∙ l .inv .1, omega (arith, f .kept .0, f .ensures))
+    (omega arith, f .kept .0 ∙ l .inv .1, omega (arith, f .kept .0, f .ensures .0))
 
 same-length : tie.Need-same-length Inv-loop μ-loop
 same-length c = search needs

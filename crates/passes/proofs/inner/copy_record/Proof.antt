@@ -1,70 +1,34 @@
-use mathlib.Core.Path.{_≡_, refl}
-use mathlib.Core.List.{List, _++_}
-use Prim.Native.Nat.{ℕ, _≤_, _<_, _-_}
+use mathlib.Core.Path.{refl}
 use native.Mathlib.Omega.{arith}
+use Rattle.passes.proofs.Laws.{third-copied}
 use borrow.Author.Needs.{needs}
-use lib.ListN.{length, getD, take, drop, length-set}
-use Rattle.record.specs.Record.{size}
-use Rattle.passes.proofs.Laws.{next-copied}
 use Rattle.passes.proofs.inner.copy_record.Statement.{statement}
 use Rattle.passes.proofs.inner.copy_record.Tie as tie
 
-abbrev Inv-loop : tie.InvT-loop
-Inv-loop from to₀ i₀ to i = (i ≤ size) × (length to ≡ length to₀) × (to ≡ take i from ++ drop i to₀)
+copy-third-requires : tie.Need-copy-third-requires
+copy-third-requires c κs = search needs
 
-abbrev μ-loop : tie.MeasureT-loop
-μ-loop from to₀ i₀ to i = size - i
+copy-third-requires-2 : tie.Need-copy-third-requires-2
+copy-third-requires-2 c κs = search needs
 
-loop-holds : tie.Need-loop-holds Inv-loop μ-loop
-loop-holds c = (omega arith, refl, refl)
+copy-third-requires-3 : tie.Need-copy-third-requires-3
+copy-third-requires-3 c κs = search needs
 
-mul-to : tie.Need-mul-to Inv-loop μ-loop
-mul-to c = search needs
-
-shared-slice-read-to : tie.Need-shared-slice-read-to Inv-loop μ-loop
-shared-slice-read-to c = search needs
-
-mul-to-2 : tie.Need-mul-to-2 Inv-loop μ-loop
-mul-to-2 c = search needs
-
-slice-write-to : tie.Need-slice-write-to Inv-loop μ-loop
-slice-write-to c = search needs
-
-add-i : tie.Need-add-i Inv-loop μ-loop
-add-i c = search needs
-
-loop-less : tie.Need-loop-less Inv-loop μ-loop
-loop-less c = search needs
-
-loop-again : tie.Need-loop-again Inv-loop μ-loop
-loop-again c = let l = c .before .before in
-    let s = l .before in
-    let h : l .loop .i < size = omega arith in (
-      omega arith,
-      simp length-set (l .loop .inv .1),
-      rw (l .loop .inv .2) (next-copied (s .args .from .now) (s .args .to .now) (l .loop .i) (omega (arith, s .pre .0)) (omega (arith, s .pre .1))),
-    )
-
-same-length : tie.Need-same-length Inv-loop μ-loop
+same-length : tie.Need-same-length
 same-length c = search needs
 
-returns : tie.Need-returns Inv-loop μ-loop
-returns c = let l = c .before in
-    let e : l .loop .i ≡ size = omega arith in rw e at (l .loop .inv .2)
+returns : tie.Need-returns
+returns c = let t3 = c .before .before in
+    let t2 = t3 .before .before .before .before in
+    let t1 = t2 .before .before .before .before in
+    let s = t1 .before .before .before .before in
+    let from = s .args .from .now in
+    let to = s .args .to .now in
+    let e1 = third-copied from to to (t1 .copy-third .last .1 .0) 0 (omega (arith, s .pre .0)) (omega (arith, s .pre .1)) refl (t1 .copy-third .ensures) in
+    let e2 = third-copied from to (t1 .copy-third .last .1 .0) (t2 .copy-third2 .last .1 .0) 9 (omega (arith, s .pre .0)) (omega (arith, s .pre .1)) e1 (t2 .copy-third2 .ensures) in
+    third-copied from to (t2 .copy-third2 .last .1 .0) (t3 .copy-third3 .last .1 .0) 18 (s .pre .0) (s .pre .1) e2 (t3 .copy-third3 .ensures)
 
 pub copy-record-spec : {M : Type 1} → statement M
 copy-record-spec =
     tie.close
-    (tie.spec
-    Inv-loop
-    μ-loop
-    loop-holds
-    mul-to
-    shared-slice-read-to
-    mul-to-2
-    slice-write-to
-    add-i
-    loop-less
-    loop-again
-    same-length
-    returns)
+    (tie.spec copy-third-requires copy-third-requires-2 copy-third-requires-3 same-length returns)

@@ -1,0 +1,2 @@
+-- The definitions that the contracts of `hexlines` cite.
+pub mod Lines
