@@ -55,7 +55,7 @@ frames-end bins s l i h = rw (drop-of-length-le l h)
 
 -- ---- lists that climb
 
-from-most : (n s : ℕ) (l : List ℕ) → climbsFrom n s l ≡ true → s ≤ n
+pub from-most : (n s : ℕ) (l : List ℕ) → climbsFrom n s l ≡ true → s ≤ n
 unfolding climbsFrom
 from-most n s [] h = let e = eqb-true s n h in omega arith
 from-most n s (t ∷ ts) h = let b = both (leb s t) h in omega (arith, leb-true s t (b .0), from-most n t ts (b .1))

@@ -1,2 +1,3 @@
 -- What the proofs of `frameindex` cite, and laws for those who read a checked index.
 pub mod Laws
+pub mod IndexNumberLaws

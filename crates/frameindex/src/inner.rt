@@ -1,7 +1,7 @@
 // The checks of a frame index. Each takes any lists.
 ghost use mathlib.Core.Path.{_≡_};
 ghost use mathlib.Core.Bool.{true};
-ghost use Prim.Native.Nat.{_≤_, _+_};
+ghost use Prim.Native.Nat.{_≤_, _+_, _-_};
 ghost use lib.Dec.{eqb};
 ghost use lib.ListN.{length};
 ghost use Rattle.params.specs.Params.{rising};
@@ -15,6 +15,16 @@ pub struct Seen {
     pub readings: bool,
     pub scans: bool,
     pub sound: bool,
+}
+
+// How many frames there are, by the count of starts.
+pub fn frames(starts: usize) -> usize
+    ensures { λ r. ⌜ r ≡ starts - 1 ⌝ }
+{
+    if starts == 0 {
+        return 0;
+    }
+    starts - 1
 }
 
 // Whether numbers start at 0, never fall and end at n.

@@ -1,24 +1,26 @@
 -- Sums of points, bins and frames, part by part.
 use mathlib.Core.Path.{_≡_, refl, sym, ap, _∙_}
-use mathlib.Core.Bool.{Bool, true, false, cond}
-use mathlib.Core.List.{List, [], _∷_, _++_, map-append, append-assoc}
-use Prim.Native.Nat.{ℕ, zero, suc, _≤_, _<_, _+_, _-_}
+use mathlib.Core.Bool.{Bool, true, false, cond, _||_}
+use mathlib.Core.List.{List, [], _∷_, _++_, map, map-append, append-assoc}
+use Prim.Native.Nat.{ℕ, zero, suc, _≤_, _<_, _+_, _-_, _*_, _/_}
 use native.Mathlib.Numerals.{add-one}
 use native.Mathlib.Omega.{arith}
 use borrow.Author.Tests.{le-leb, lt-leb, ltb-true, ltb-false, eqb-true, eqb-false}
 use lib.Dec.{leb, ltb, eqb}
-use lib.ListN.{length, getD, drop, set, length-map}
-use lib.Seq.{drop-cons, set-at}
-use lib.Ieee.{Float}
-use Rattle.refusal.proofs.Bools.{and-false}
+use lib.ListN.{length, getD, take, drop, set, length-map}
+use lib.Seq.{drop-cons, take-suc, set-at}
+use lib.Ieee.{Float, nan}
+use Rattle.refusal.proofs.Bools.{and-false, neither}
 use Rattle.numeric.specs.Arith.{_⊕_, 𝟎, at}
 use Rattle.digits.specs.Sorted.{upTo}
 use Rattle.digits.proofs.UpTo.{upto-length}
 use Rattle.frameindex.specs.FrameIndex.{Index, climbsTo, points}
+use Rattle.frameindex.specs.declared.numbers.Further.{Further}
 use Rattle.frameindex.proofs.Laws.{climbs-up, climbs-most, frame-up, sound-parts}
+use Rattle.frameindex.proofs.IndexNumberLaws.{Accepted}
 use Rattle.framesums.specs.declared.inner.Window.{Window}
 use Rattle.framesums.specs.Sums.{inBins, inScans, addPoints, addBins, addFrame, frameSums}
-use Rattle.framesums.specs.Steps.{Checked, Rising, FirstAt, withScans, PointsOf}
+use Rattle.framesums.specs.Steps.{Checked, Rising, FirstAt, anyIn, withScans, PointsOf}
 
 module _ (ix : Index) (w : Window) where
   -- ---- points
@@ -52,6 +54,12 @@ module _ (ix : Index) (w : Window) where
       let e : d - a ≡ (b - a) + (d - b) = omega arith in
       let f : a + (b - a) ≡ b = omega arith in
       rw e (points-more (b - a) (d - b) a so ∙ ap (λ (i : ℕ). addPoints ix w (d - b) i (addPoints ix w (b - a) a so)) f)
+
+  -- points of which none lies in the window
+  pub points-out : (n a : ℕ) (so : Float) → anyIn w (ix .scans) n a ≡ false → addPoints ix w n a so ≡ so
+  unfolding addPoints anyIn
+  points-out zero a so h = refl
+  points-out (suc n) a so h = let e = neither (inScans w (getD (ix .scans) a 0)) h in rw (e .0) (points-out n (a + 1) so (e .1))
 
   -- ---- bins
 
@@ -118,7 +126,50 @@ module _ (ix : Index) (w : Window) where
       ∙ bins-in (j - i) i m so c (omega arith) (λ k x y. in-bins (getD (ix .bins) k 0) (a .high k x (omega arith)) (omega (arith, b .low k x (omega arith))))
       ∙ ap (λ (k : ℕ). addPoints ix w (getD (ix .offsets) k 0 - getD (ix .offsets) i 0) (getD (ix .offsets) i 0) so) e
 
+-- ---- whether a scan lies in the window
+
+any-step : (w : Window) (scans : List ℕ) (n i j : ℕ) → i < n → anyIn w scans (n - i) (j + i) ≡ (inScans w (getD scans (j + i) 0) || anyIn w scans (n - (i + 1)) (j + (i + 1)))
+unfolding anyIn
+any-step w scans n i j h =
+    let e : n - i ≡ suc (n - (i + 1)) = omega arith in
+    let k : j + (i + 1) ≡ j + i + 1 = omega arith in
+    rw (e, k)
+
+or-assoc : (a b c : Bool) → (a || (b || c)) ≡ ((a || b) || c)
+or-assoc true b c = refl
+or-assoc false b c = refl
+
+or-false : (a : Bool) → (a || false) ≡ a
+or-false true = refl
+or-false false = refl
+
+pub any-start : (w : Window) (scans : List ℕ) (n j : ℕ) → anyIn w scans n j ≡ (false || anyIn w scans (n - 0) (j + 0))
+any-start w scans n j = let e : n - 0 ≡ n = omega arith in let k : j + 0 ≡ j = omega arith in rw (e, k)
+
+pub any-more : (w : Window) (scans : List ℕ) (n i j : ℕ) (any : Bool) → i < n → anyIn w scans n j ≡ (any || anyIn w scans (n - i) (j + i))
+    → anyIn w scans n j ≡ ((any || inScans w (getD scans (j + i) 0)) || anyIn w scans (n - (i + 1)) (j + (i + 1)))
+any-more w scans n i j any h e =
+    e ∙ ap (λ (b : Bool). any || b) (any-step w scans n i j h)
+    ∙ or-assoc any (inScans w (getD scans (j + i) 0)) (anyIn w scans (n - (i + 1)) (j + (i + 1)))
+
+pub any-end : (w : Window) (scans : List ℕ) (n i j : ℕ) (any : Bool) → n ≤ i → anyIn w scans n j ≡ (any || anyIn w scans (n - i) (j + i)) → any ≡ anyIn w scans n j
+unfolding anyIn
+any-end w scans n i j any h e = let z : n - i ≡ 0 = omega arith in sym (or-false any) ∙ sym (rw z at e)
+
 -- ---- the search
+
+-- a step that is taken or not
+pub step-most : (h d : ℕ) (t : Bool) → d ≡ cond t 1 0 → h * d ≤ h
+step-most h d true e = rw e (omega arith)
+step-most h d false e = rw e (omega arith)
+
+-- a test, reckoned
+pub below-is : (a b : ℕ) → a < 4294967296 → b < 4294967296 → 1 - (a + 4294967296 - b) / 4294967296 ≡ cond (ltb a b) 1 0
+below-is a b h k = go (ltb a b) refl
+  where
+    go : (t : Bool) → ltb a b ≡ t → 1 - (a + 4294967296 - b) / 4294967296 ≡ cond t 1 0
+    go true t = let l = ltb-true a b t in omega arith
+    go false t = let l = ltb-false a b t in omega arith
 
 -- places before r have bins below x, those from n past it on have bins of x at least
 pub record Halved (bins : List ℕ) (from to x r n : ℕ) : Type 0 where
@@ -147,7 +198,7 @@ module _ (bins : List ℕ) (from to x : ℕ) (rise : Rising bins from to) where
       }
 
   -- the bin halfway is below x, or it is not
-  pub halved-up : (r n h : ℕ) → Halved bins from to x r n → h < n → getD bins (r + h) 0 < x → Halved bins from to x (r + h) (n - h)
+  halved-up : (r n h : ℕ) → Halved bins from to x r n → h < n → getD bins (r + h) 0 < x → Halved bins from to x (r + h) (n - h)
   halved-up r n h g k b =
       let after : from ≤ r = g .after in
       let before : r + n ≤ to = g .before in
@@ -159,7 +210,7 @@ module _ (bins : List ℕ) (from to x : ℕ) (rise : Rising bins from to) where
         high = λ j a d. g .high j (omega arith) d;
       }
 
-  pub halved-down : (r n h : ℕ) → Halved bins from to x r n → h + h ≤ n → 0 < h → x ≤ getD bins (r + h) 0 → Halved bins from to x r (n - h)
+  halved-down : (r n h : ℕ) → Halved bins from to x r n → h + h ≤ n → 0 < h → x ≤ getD bins (r + h) 0 → Halved bins from to x r (n - h)
   halved-down r n h g k z b =
       let after : from ≤ r = g .after in
       let before : r + n ≤ to = g .before in
@@ -171,8 +222,22 @@ module _ (bins : List ℕ) (from to x : ℕ) (rise : Rising bins from to) where
         high = λ j a d. omega (arith, rise-le bins from to (r + h) j rise (omega arith) (omega arith) d);
       }
 
+  -- by what the test comes to
+  pub halved-by : (r n h d : ℕ) → Halved bins from to x r n → h + h ≤ n → 0 < h → d ≡ cond (ltb (getD bins (r + h) 0) x) 1 0 → Halved bins from to x (r + h * d) (n - h)
+  halved-by r n h d g k z e = go (ltb (getD bins (r + h) 0) x) refl
+    where
+      go : (t : Bool) → ltb (getD bins (r + h) 0) x ≡ t → Halved bins from to x (r + h * d) (n - h)
+      go true t =
+          let o : d ≡ 1 = e ∙ ap (λ (b : Bool). cond b 1 0) t in
+          let m : r + h * 1 ≡ r + h = omega arith in
+          rw (o, m) (halved-up r n h g (omega arith) (ltb-true (getD bins (r + h) 0) x t))
+      go false t =
+          let o : d ≡ 0 = e ∙ ap (λ (b : Bool). cond b 1 0) t in
+          let m : r + h * 0 ≡ r = omega arith in
+          rw (o, m) (halved-down r n h g k z (ltb-false (getD bins (r + h) 0) x t))
+
   -- one place is left
-  pub halved-past : (r n : ℕ) → Halved bins from to x r n → n ≤ 1 → getD bins r 0 < x → FirstAt bins from to x (r + 1)
+  halved-past : (r n : ℕ) → Halved bins from to x r n → n ≤ 1 → getD bins r 0 < x → FirstAt bins from to x (r + 1)
   halved-past r n g k b =
       let some : 0 < n = g .some in
       let after : from ≤ r = g .after in
@@ -184,7 +249,7 @@ module _ (bins : List ℕ) (from to x : ℕ) (rise : Rising bins from to) where
         high = λ j a d. g .high j (omega arith) d;
       }
 
-  pub halved-at : (r n : ℕ) → Halved bins from to x r n → n ≤ 1 → x ≤ getD bins r 0 → FirstAt bins from to x r
+  halved-at : (r n : ℕ) → Halved bins from to x r n → n ≤ 1 → x ≤ getD bins r 0 → FirstAt bins from to x r
   halved-at r n g k b =
       let some : 0 < n = g .some in
       let after : from ≤ r = g .after in
@@ -195,6 +260,16 @@ module _ (bins : List ℕ) (from to x : ℕ) (rise : Rising bins from to) where
         low = g .low;
         high = λ j a d. omega (arith, rise-le bins from to r j rise after a d);
       }
+
+  pub halved-end : (r n d : ℕ) → Halved bins from to x r n → n ≤ 1 → d ≡ cond (ltb (getD bins r 0) x) 1 0 → FirstAt bins from to x (r + d)
+  halved-end r n d g k e = go (ltb (getD bins r 0) x) refl
+    where
+      go : (t : Bool) → ltb (getD bins r 0) x ≡ t → FirstAt bins from to x (r + d)
+      go true t = let o : d ≡ 1 = e ∙ ap (λ (b : Bool). cond b 1 0) t in rw o (halved-past r n g k (ltb-true (getD bins r 0) x t))
+      go false t =
+          let o : d ≡ 0 = e ∙ ap (λ (b : Bool). cond b 1 0) t in
+          let m : r + 0 ≡ r = omega arith in
+          rw (o, m) (halved-at r n g k (ltb-false (getD bins r 0) x t))
 
   pub first-none : from ≡ to → FirstAt bins from to x from
   first-none e =
@@ -219,6 +294,10 @@ module _ (bins : List ℕ) (from to x : ℕ) (rise : Rising bins from to) where
       go : (t : Bool) → eqb j i ≡ t → getD bins j 0 < x
       go true t = let e : j ≡ i = eqb-true j i t in rw e h
       go false t = let n = eqb-false j i t in l j a (omega arith)
+
+-- an index that no number of a call refuses
+pub checked : (ix : Index) (f : Further) → Accepted ix f → Checked ix
+checked ix f a = record { sound = a .sound; offsets = a .offsets; readings = sym (a .readings) }
 
 -- ---- a frame of a checked index
 module _ (ix : Index) (ck : Checked ix) (f : ℕ) (l : f + 1 < length (ix .starts)) where
@@ -274,6 +353,16 @@ module _ (ix : Index) (ck : Checked ix) (f : ℕ) (l : f + 1 < length (ix .start
         })
 
 -- ---- sums of frames one after another
+
+-- the front of a list, told by its values
+pub front-map : (l : List Float) (f : ℕ → Float) (n : ℕ) → n ≤ length l → ((k : ℕ) → k < n → at l k ≡ f k) → take n l ≡ map f (upTo n)
+unfolding upTo
+front-map l f zero h e = refl
+front-map l f (suc n) h e =
+    take-suc l n nan (omega arith)
+    ∙ ap (λ (x : List Float). x ++ (at l n ∷ [])) (front-map l f n (omega arith) (λ k j. e k (omega arith)))
+    ∙ ap (λ (v : Float). map f (upTo n) ++ (v ∷ [])) (e n (omega arith))
+    ∙ sym (map-append f (upTo n) (n ∷ []))
 
 -- a list that fills a buffer from its front grows by one
 push : {A : Type 0} (P d : List A) (n : ℕ) (v : A) → length P ≡ n → n < length d → set (P ++ drop n d) n v ≡ (P ++ (v ∷ [])) ++ drop (n + 1) d

@@ -1,14 +1,14 @@
 -- What the steps of a sum ask of an index and find in it.
 use mathlib.Core.Path.{_≡_}
-use mathlib.Core.Bool.{true}
+use mathlib.Core.Bool.{Bool, true, false, _||_}
 use mathlib.Core.List.{List}
-use Prim.Native.Nat.{ℕ, _+_, _-_, _≤_, _<_}
+use Prim.Native.Nat.{ℕ, zero, suc, _+_, _-_, _≤_, _<_}
 use lib.ListN.{length, getD}
 use lib.Ieee.{Float}
 use Rattle.frameindex.specs.FrameIndex.{Index, soundIndex, points}
 use Rattle.framesums.specs.declared.inner.Window.{Window}
 use Rattle.framesums.specs.declared.inner.Span.{Span}
-use Rattle.framesums.specs.Sums.{addPoints, addFrame}
+use Rattle.framesums.specs.Sums.{inScans, addPoints, addFrame}
 
 abbrev pub indexOf : List ℕ → List ℕ → List ℕ → List ℕ → List Float → Index
 indexOf starts bins offsets scans readings = record { starts = starts; bins = bins; offsets = offsets; scans = scans; readings = readings }
@@ -29,6 +29,11 @@ pub record FirstAt (bins : List ℕ) (from to x r : ℕ) : Type 0 where
   pub before : r ≤ to
   pub low : (j : ℕ) → from ≤ j → j < r → getD bins j 0 < x
   pub high : (j : ℕ) → r ≤ j → j < to → x ≤ getD bins j 0
+
+-- one of n scans from place a on lies in the window
+unfoldable pub anyIn : Window → List ℕ → ℕ → ℕ → Bool
+anyIn w scans zero a = false
+anyIn w scans (suc n) a = inScans w (getD scans a 0) || anyIn w scans n (a + 1)
 
 -- a window's bins with other scans
 abbrev pub withScans : Window → ℕ → ℕ → Window

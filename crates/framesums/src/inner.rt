@@ -1,10 +1,12 @@
 // Sums over the points of a checked index: those of a frame whose bins lie in a window stand side by side.
 ghost use mathlib.Core.Path.{_≡_};
+ghost use mathlib.Core.Bool.{cond};
 ghost use mathlib.Core.List.{_++_};
 ghost use Prim.Native.Nat.{ℕ, _≤_, _<_, _+_, _-_};
+ghost use lib.Dec.{ltb};
 ghost use lib.ListN.{length, getD, drop};
 ghost use Rattle.framesums.specs.Sums.{addPoints, addFrame, frameSums};
-ghost use Rattle.framesums.specs.Steps.{indexOf, Checked, Rising, FirstAt, PointsOf};
+ghost use Rattle.framesums.specs.Steps.{indexOf, Checked, Rising, FirstAt, anyIn, PointsOf};
 
 // Bins and scans, ends included.
 pub struct Window {
@@ -20,6 +22,13 @@ pub struct Span {
     pub to: usize,
 }
 
+// 1 where a is below b, and else 0; reckoned, since at a branch on it the search would lose as much time as in all else.
+fn below(a: u32, b: u32) -> usize
+    ensures { λ r. ⌜ r ≡ cond (ltb a b) 1 0 ⌝ }
+{
+    1 - ((a as u64 + 4294967296 - b as u64) / 4294967296) as usize
+}
+
 // The first place whose bin is x at least, by halving.
 pub fn first_at(bins: &[u32], from: usize, to: usize, x: u32) -> usize
     requires { ⌜ (from ≤ to) × (to ≤ length (now bins)) × Rising (now bins) from to ⌝ }
@@ -32,12 +41,10 @@ pub fn first_at(bins: &[u32], from: usize, to: usize, x: u32) -> usize
     let mut n = to - from;
     while n > 1 {
         let half = n / 2;
-        if bins[base + half] < x {
-            base += half;
-        }
+        base += half * below(bins[base + half], x);
         n -= half;
     }
-    if bins[base] < x { base + 1 } else { base }
+    base + below(bins[base], x)
 }
 
 // The first place whose bin is above x, step by step, since windows are narrow.
@@ -85,8 +92,8 @@ pub fn span_of(
     }
 }
 
-// Adds the readings of a span whose scans lie in the window.
-fn add_points(
+// Adds the readings of a span whose scans lie in the window, point by point.
+fn add_each(
     starts: &[u32],
     bins: &[u32],
     offsets: &[u32],
@@ -109,6 +116,47 @@ fn add_points(
         j += 1;
     }
     sum
+}
+
+// Whether one of eight scans from place j on lies in the window.
+fn any_of_eight(scans: &[u32], j: usize, w: Window) -> bool
+    requires { ⌜ j + 8 ≤ length (now scans) ⌝ }
+    ensures { λ r. ⌜ r ≡ anyIn w (now (scans .entry)) 8 j ⌝ }
+{
+    let mut any = false;
+    for i in 0..8 {
+        let s = scans[j + i];
+        any = any | ((w.scan_lo <= s) & (s <= w.scan_hi));
+    }
+    any
+}
+
+// The same as point by point; eight points are passed over at a time where none of them lies in the window.
+fn add_points(
+    starts: &[u32],
+    bins: &[u32],
+    offsets: &[u32],
+    scans: &[u32],
+    readings: &[f32],
+    p: Span,
+    w: Window,
+    so: f32,
+) -> f32
+    requires { ⌜ (p .from ≤ p .to) × (p .to ≤ length (now scans)) × (length (now readings) ≡ length (now scans)) ⌝ }
+    ensures { λ r. ⌜ r ≡ addPoints (indexOf (now (starts .entry)) (now (bins .entry)) (now (offsets .entry)) (now (scans .entry)) (now (readings .entry))) w (p .to - p .from) (p .from) so ⌝ }
+{
+    let mut sum = so;
+    let mut j = p.from;
+    while p.to - j >= 8 {
+        let any = any_of_eight(scans, j, w);
+        if any {
+            let q = Span { from: j, to: j + 8 };
+            sum = add_each(starts, bins, offsets, scans, readings, q, w, sum);
+        }
+        j += 8;
+    }
+    let rest = Span { from: j, to: p.to };
+    add_each(starts, bins, offsets, scans, readings, rest, w, sum)
 }
 
 // Adds the readings of frame f whose bin and scan lie in the window.

@@ -1,24 +1,25 @@
 -- Sums by scan: each value of a window's scans is a sum of its own.
 use mathlib.Core.Path.{_≡_, refl, sym, ap, _∙_}
 use mathlib.Core.Bool.{Bool, true, false, _&&_}
-use mathlib.Core.List.{List, [], _∷_, _++_, map, map-append}
-use Prim.Native.Nat.{ℕ, zero, suc, _≤_, _<_, _+_, _-_}
+use mathlib.Core.List.{List, _++_, map}
+use Prim.Native.Nat.{ℕ, suc, _≤_, _<_, _+_, _-_}
 use native.Mathlib.Omega.{arith}
 use borrow.Author.Tests.{le-leb, lt-leb, leb-true, ltb-true, ltb-false, eqb-true, eqb-false}
 use lib.Dec.{leb, ltb, eqb}
-use lib.ListN.{length, getD, take, drop, set, length-set, take-append-drop}
-use lib.Seq.{take-suc, getD-set-same, getD-set-other, drop-set-lt, drop-drop}
+use lib.ListN.{length, getD, drop, set, length-set, take-append-drop, length-map}
+use lib.Seq.{getD-set-same, getD-set-other, drop-set-lt, drop-drop}
 use lib.Ieee.{Float, nan}
 use Rattle.refusal.proofs.Bools.{clash, both, and-false}
 use Rattle.numeric.specs.Arith.{_⊕_, 𝟎, at}
 use Rattle.digits.specs.Sorted.{upTo}
+use Rattle.digits.proofs.UpTo.{upto-length}
 use Rattle.frameindex.specs.FrameIndex.{Index}
 use Rattle.framesums.specs.declared.inner.Window.{Window}
 use Rattle.framesums.specs.declared.inner.Span.{Span}
 use Rattle.framesums.specs.Sums.{inScans, addPoints, addFrame, addFrames, atScan, scanSums}
 use Rattle.framesums.specs.Steps.{PointsOf}
 use Rattle.scansums.specs.Steps.{scansOf, Stepped}
-use Rattle.framesums.proofs.Laws.{points-take, points-skip, points-none}
+use Rattle.framesums.proofs.Laws.{points-take, points-skip, points-none, front-map}
 
 -- a window of one scan has that scan and no other
 one-scan : (w : Window) (a s : ℕ) → a ≡ s → inScans (atScan w a) s ≡ true
@@ -127,6 +128,10 @@ module _ (ix : Index) (w : Window) (a b : ℕ) (old : List Float) where
 
 -- ---- frames
 
+pub sums-length : (ix : Index) (w : Window) (f n : ℕ) → length (scanSums ix w f n) ≡ scansOf w
+unfolding scanSums
+sums-length ix w f n = length-map (upTo (scansOf w)) (λ k. addFrames ix (atScan w (w .«scan_lo» + k)) n f 𝟎) ∙ upto-length (scansOf w)
+
 frames-step : (ix : Index) (w : Window) (f n g : ℕ) (so : Float) → g < n
     → addFrames ix w (n - g) (f + g) so ≡ addFrames ix w (n - (g + 1)) (f + (g + 1)) (addFrame ix w (f + g) so)
 unfolding addFrames
@@ -138,15 +143,6 @@ frames-step ix w f n g so h =
 frames-none : (ix : Index) (w : Window) (f n : ℕ) (so : Float) → n ≡ 0 → addFrames ix w n f so ≡ so
 unfolding addFrames
 frames-none ix w f n so e = rw e
-
-front-map : (l : List Float) (f : ℕ → Float) (n : ℕ) → n ≤ length l → ((k : ℕ) → k < n → at l k ≡ f k) → take n l ≡ map f (upTo n)
-unfolding upTo
-front-map l f zero h e = refl
-front-map l f (suc n) h e =
-    take-suc l n nan (omega arith)
-    ∙ ap (λ (x : List Float). x ++ (at l n ∷ [])) (front-map l f n (omega arith) (λ k j. e k (omega arith)))
-    ∙ ap (λ (v : Float). map f (upTo n) ++ (v ∷ [])) (e n (omega arith))
-    ∙ sym (map-append f (upTo n) (n ∷ []))
 
 module _ (ix : Index) (w : Window) (f n : ℕ) (old : List Float) where
   pub record Summing (g : ℕ) (out : List Float) : Type 0 where

@@ -1,0 +1,4 @@
+-- The proofs of what specs/ states, and what the proofs of functions cite.
+pub mod ManyTracesLaws
+pub mod Laws
+pub mod AnswerLaws

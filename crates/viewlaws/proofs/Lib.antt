@@ -1,0 +1,4 @@
+-- The proofs of what specs/ states.
+pub mod Kept
+pub mod Joined
+pub mod BuiltIndex
