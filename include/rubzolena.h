@@ -1,4 +1,4 @@
-/* Grid detection, stitching and the frame index of Rubzolena, from the static library librubzolena.a ('make library').
+/* Grid detection, stitching, the frame index, marginals and retention traces of Rubzolena, from the static library librubzolena.a ('make library').
  *
  * A list is words of 32 bits; a float in it is the word of its IEEE 754 binary32 bit pattern. Grid detection takes its lists as
  * bytes, four a word, the lowest first, asks for no alignment, and counts a length in bytes. The other functions take words and
@@ -33,20 +33,22 @@ extern "C" {
 #define RUBZOLENA_RECORD_WORDS 27
 
 /* The numbers, of which the lowest that applies is answered: 1 to 7, 20 and 22 by grid detection; 1, 2, 4, 8, 9, 20 and 21 by
- * stitching; 1 to 5 and 20 to 22 by a frame's part of an index. */
+ * stitching; 1 to 5 and 20 to 22 by a frame's part of an index; 1 to 5, 20 and 23 by marginals and traces, by bounds also 22, and
+ * for many peaks also 9 and 21. */
 enum {
     RUBZOLENA_LENGTHS = 1,            /* lengths that must agree do not, a list is no whole words or records, or rows and num_bins differ */
-    RUBZOLENA_TOO_LARGE = 2,          /* more than 4,194,304 rows, 16,384 columns, 65,536 peaks, or 16,777,216 points */
+    RUBZOLENA_TOO_LARGE = 2,          /* more than 4,194,304 rows, 16,384 columns or frames, 65,536 peaks, or 16,777,216 points or bins */
     RUBZOLENA_READING = 3,            /* a reading not from 0 to 2^32 */
-    RUBZOLENA_PARAMETER = 4,          /* a parameter or a mobility out of range, reversed bounds, or identities that could run out */
-    RUBZOLENA_TOF_OR_SCAN = 5,        /* a TOF value of the scale or of a point above 4,194,303, or a scan above 65,535 */
+    RUBZOLENA_PARAMETER = 4,          /* a parameter or a mobility out of range, a reversed range, or identities that could run out */
+    RUBZOLENA_TOF_OR_SCAN = 5,        /* a TOF value or a scan out of range */
     RUBZOLENA_WEIGHTS = 6,            /* weights of another form */
     RUBZOLENA_NOT_RISING = 7,         /* scans that do not strictly rise */
     RUBZOLENA_IDENTITY_TWICE = 8,     /* two peaks to stitch with one identity */
     RUBZOLENA_RECORD = 9,             /* a record with reversed bounds or a field out of range */
-    RUBZOLENA_LIST_TOO_SHORT = 20,    /* a list for results has less room than the sizes allow peaks, or than there are points */
-    RUBZOLENA_SCRATCH_TOO_SHORT = 21, /* scratch shorter than the list to stitch, or than there are points */
-    RUBZOLENA_SCALE = 22              /* a scale whose numbers disagree */
+    RUBZOLENA_LIST_TOO_SHORT = 20,    /* a list for results has less room than the sizes allow peaks, points or sums */
+    RUBZOLENA_SCRATCH_TOO_SHORT = 21, /* scratch shorter than the list of peaks or points */
+    RUBZOLENA_SCALE = 22,             /* a scale whose numbers disagree */
+    RUBZOLENA_INDEX = 23              /* a frame index of another form */
 };
 
 /* The mobility peaks of all rows of a TOF grid. A number in brackets is the one that is answered where the words before it do
@@ -182,6 +184,117 @@ uint64_t rubzolena_build_frame_bin_view(
     uint32_t *keys, size_t keys_len,
     uint32_t *order, size_t order_len,
     uint32_t *spare, size_t spare_len);
+
+/* Marginals and traces sum readings of a frame index. Each sum starts at 0 and adds, as binary32, one reading after another: frame after
+ * frame, within a frame by bin, within a bin as the points stand. A number in brackets is the one that is answered where the words before
+ * it do not hold. The index is the first five lists of each function:
+ *
+ * starts           one a frame and one more, so at least one (1), for 16,384 frames at most (2): 0 first, never falling, the count of bins
+ *                  last (23)
+ * bins             16,777,216 at most (2), each to 4,194,303, strictly rising within a frame (23). They need not be bins of a scale
+ * offsets          one a bin and one more (1): 0 first, never falling, the count of points last (23)
+ * scans            the absolute scans of the points, 16,777,216 at most (2), each to 65,535 (5)
+ * readings         as many as scans (1), floats from 0 to 2^32 (3), also those that are not summed
+ *
+ * Each function returns 64 times a count, and the sums then stand at the front of out; past them out is as it was. Or it returns, from
+ * 1 to 63, the number that says why nothing was done, and its written lists are as they were. */
+
+/* For each frame from rt_lo to rt_hi the sum of its readings with a bin from bin_lo to bin_hi and a scan from im_lo to im_hi.
+ *
+ * starts .. readings   the index
+ * rt_lo, rt_hi     frames, by place: rt_lo not above rt_hi, rt_hi below the count of frames (4)
+ * bin_lo, bin_hi   bins: bin_lo not above bin_hi, bin_hi to 4,194,303 (4)
+ * im_lo, im_hi     absolute scans: im_lo not above im_hi (4), im_hi to 65,535 (5)
+ * out              room for a sum a frame, rt_hi - rt_lo + 1 (20)
+ *
+ * The count is that of the sums. */
+uint64_t rubzolena_build_rt_marginal(
+    const uint32_t *starts, size_t starts_len,
+    const uint32_t *bins, size_t bins_len,
+    const uint32_t *offsets, size_t offsets_len,
+    const uint32_t *scans, size_t scans_len,
+    const float *readings, size_t readings_len,
+    uint32_t rt_lo, uint32_t rt_hi, uint32_t bin_lo, uint32_t bin_hi, uint32_t im_lo, uint32_t im_hi,
+    float *out, size_t out_len);
+
+/* For each scan from im_lo to im_hi the sum of the readings of the frames rt_lo to rt_hi with a bin from bin_lo to bin_hi. The
+ * arguments are those of the function before it, but for
+ * out              room for a sum a scan, im_hi - im_lo + 1 (20)
+ *
+ * The count is that of the sums. */
+uint64_t rubzolena_build_im_marginal(
+    const uint32_t *starts, size_t starts_len,
+    const uint32_t *bins, size_t bins_len,
+    const uint32_t *offsets, size_t offsets_len,
+    const uint32_t *scans, size_t scans_len,
+    const float *readings, size_t readings_len,
+    uint32_t rt_lo, uint32_t rt_hi, uint32_t bin_lo, uint32_t bin_hi, uint32_t im_lo, uint32_t im_hi,
+    float *out, size_t out_len);
+
+/* A retention trace: for each frame the sum of its readings with a scan from scan_lo to scan_hi and a bin from tof_row - bin_pad, or
+ * from 0 where that would be below it, to tof_row + bin_pad.
+ *
+ * starts .. readings   the index
+ * tof_row          a bin, to 4,194,303 (4)
+ * bin_pad          the bins to take on either side of it, to 65,535 (4)
+ * scan_lo, scan_hi absolute scans, to 65,535 (5); where scan_lo is above scan_hi there are none, and every sum is 0
+ * out              room for a sum a frame (20)
+ *
+ * The count is that of the frames. */
+uint64_t rubzolena_rt_trace_for_im_peak(
+    const uint32_t *starts, size_t starts_len,
+    const uint32_t *bins, size_t bins_len,
+    const uint32_t *offsets, size_t offsets_len,
+    const uint32_t *scans, size_t scans_len,
+    const float *readings, size_t readings_len,
+    uint32_t tof_row, uint32_t bin_pad, uint32_t scan_lo, uint32_t scan_hi,
+    float *out, size_t out_len);
+
+/* The same with the bins of TOF bounds, and extra_bins_pad more on either side, from 0 on.
+ *
+ * starts .. readings   the index
+ * tof_min, tof_max, tof_step, num_bins   the scale, as above (4, 5, 22)
+ * tof_lo, tof_hi   TOF bounds in either order, to 4,259,839 (5). Their bins go from that of the lower one to that of the higher one,
+ *                  where bounds below the scale count as tof_min and those above it as tof_max
+ * extra_bins_pad   to 65,535 (4). Bins from num_bins on are summed too, where the pad reaches them and the index has them
+ * scan_lo, scan_hi absolute scans, to 65,535 (5); where scan_lo is above scan_hi there are none, and every sum is 0
+ * out              room for a sum a frame (20)
+ *
+ * The count is that of the frames. */
+uint64_t rubzolena_rt_trace_for_im_peak_by_bounds(
+    const uint32_t *starts, size_t starts_len,
+    const uint32_t *bins, size_t bins_len,
+    const uint32_t *offsets, size_t offsets_len,
+    const uint32_t *scans, size_t scans_len,
+    const float *readings, size_t readings_len,
+    uint32_t tof_min, uint32_t tof_max, uint32_t tof_step, uint32_t num_bins,
+    uint32_t tof_lo, uint32_t tof_hi, uint32_t extra_bins_pad, uint32_t scan_lo, uint32_t scan_hi,
+    float *out, size_t out_len);
+
+/* The traces by bounds of all peaks of a list, over an index that is judged once: each by its record's tof_lo, tof_hi, left_abs and
+ * right_abs.
+ *
+ * starts .. readings   the index
+ * tof_min, tof_max, tof_step, num_bins   the scale, as above (4, 5, 22)
+ * list             records, whole ones (1), to 65,536 of them (2), each with every field in its range and no low bound above its high
+ *                  one, as for stitching (9); identities may be equal
+ * extra_bins_pad   to 65,535 (4)
+ * out              room for a sum a peak and frame (20)
+ * windows          scratch: four words a peak (21)
+ *
+ * The count is that of the peaks. Their traces stand one after another, in the order of the list, each with a sum a frame; scratch may
+ * have changed in the words that are asked for, and nowhere else. */
+uint64_t rubzolena_rt_traces_for_im_peaks_by_bounds(
+    const uint32_t *starts, size_t starts_len,
+    const uint32_t *bins, size_t bins_len,
+    const uint32_t *offsets, size_t offsets_len,
+    const uint32_t *scans, size_t scans_len,
+    const float *readings, size_t readings_len,
+    uint32_t tof_min, uint32_t tof_max, uint32_t tof_step, uint32_t num_bins,
+    const uint32_t *list, size_t list_len,
+    uint32_t extra_bins_pad,
+    float *out, size_t out_len,
+    uint32_t *windows, size_t windows_len);
 
 #ifdef __cplusplus
 }

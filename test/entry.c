@@ -1,5 +1,5 @@
 /* Calls the C entries from C: null pointers with length 0, lists too short, a row with one peak, sizes without readings; two peaks
- * that are stitched. */
+ * that are stitched; a frame, and sums over it. */
 #include <stdio.h>
 #include <string.h>
 
@@ -54,5 +54,31 @@ int main(void) {
     expect("its identity", stitched[26], 5);
     expect("the word after it", stitched[27], 0xaaaaaaaa);
     expect("no peaks", rubzolena_stitch_im_peaks(NULL, 0, 0, 0, 0.0f, 0, 0, 0, 0.0f, 0, NULL, 0, NULL, 0, NULL, 0, NULL, 0, NULL, 0, NULL, 0), 0);
+
+    const uint32_t tofs[2] = {9, 9}, starts[2] = {0, 1}, none[1] = {0};
+    const float readings[2] = {1.0f, 2.0f};
+    uint32_t bins[2], offsets[3], cut[2], scratch[6], windows[4];
+    float kept[2], sums[2] = {7.0f, 7.0f};
+    expect("a frame without points or room", rubzolena_build_frame_bin_view(NULL, 0, NULL, 0, NULL, 0, 0, 9, 1, 10, 5, 0,
+        NULL, 0, NULL, 0, NULL, 0, NULL, 0, NULL, 0, NULL, 0, NULL, 0), RUBZOLENA_LIST_TOO_SHORT);
+    expect("a frame without points", rubzolena_build_frame_bin_view(NULL, 0, NULL, 0, NULL, 0, 0, 9, 1, 10, 5, 0,
+        NULL, 0, offsets, 1, NULL, 0, NULL, 0, NULL, 0, NULL, 0, NULL, 0), 0);
+    expect("its offset", offsets[0], 0);
+    expect("a frame", rubzolena_build_frame_bin_view(tofs, 2, tofs, 2, readings, 2, 0, 9, 1, 10, 5, 0,
+        bins, 2, offsets, 3, cut, 2, kept, 2, scratch, 2, scratch + 2, 2, scratch + 4, 2), 64);
+    expect("its bin", bins[0], 9);
+    expect("where it ends", offsets[1], 2);
+    expect("a scan that is cut", cut[1], 4);
+    expect("a trace", rubzolena_rt_trace_for_im_peak(starts, 2, bins, 1, offsets, 2, cut, 2, kept, 2, 8, 1, 0, 4, sums, 2), 64);
+    expect("its sum", sums[0] == 3.0f, 1);
+    expect("the sum after it", sums[1] == 7.0f, 1);
+    expect("no frames", rubzolena_rt_trace_for_im_peak(none, 1, NULL, 0, none, 1, NULL, 0, NULL, 0, 0, 0, 0, 0, NULL, 0), 0);
+    expect("no index", rubzolena_rt_trace_for_im_peak(NULL, 0, NULL, 0, NULL, 0, NULL, 0, NULL, 0, 0, 0, 0, 0, NULL, 0), RUBZOLENA_LENGTHS);
+    expect("no peaks to trace", rubzolena_rt_traces_for_im_peaks_by_bounds(none, 1, NULL, 0, none, 1, NULL, 0, NULL, 0, 0, 9, 1, 10, NULL, 0, 0, NULL, 0, NULL, 0), 0);
+    expect("two peaks to trace", rubzolena_rt_traces_for_im_peaks_by_bounds(starts, 2, bins, 1, offsets, 2, cut, 2, kept, 2, 0, 9, 1, 10,
+        list, 2 * RUBZOLENA_RECORD_WORDS, 0, sums, 2, windows, 4), RUBZOLENA_SCRATCH_TOO_SHORT);
+    expect("by bounds", rubzolena_rt_trace_for_im_peak_by_bounds(starts, 2, bins, 1, offsets, 2, cut, 2, kept, 2, 0, 9, 1, 10, 9, 9, 0, 0, 4, sums, 2), 64);
+    expect("a marginal", rubzolena_build_rt_marginal(starts, 2, bins, 1, offsets, 2, cut, 2, kept, 2, 0, 0, 9, 9, 0, 4, sums, 2), 64);
+    expect("a marginal past the frames", rubzolena_build_im_marginal(starts, 2, bins, 1, offsets, 2, cut, 2, kept, 2, 0, 1, 9, 9, 0, 4, sums, 2), RUBZOLENA_PARAMETER);
     return failed;
 }

@@ -1,11 +1,12 @@
-//! Frame indexes, by kind, and their times.
+//! Frame indexes, by kind, and their times: building them frame by frame, and summing the traces of peaks over them. The port goes
+//! through the C entries, its buffers made beforehand; of the Rust only the calls are timed, not the making of its frames.
 use crate::bench::{by_turns, line, Side};
-use crate::cluster::peak::build_frame_bin_view;
+use crate::cluster::peak::{build_frame_bin_view, rt_trace_for_im_peak_by_bounds};
 use crate::frames_level::View;
 use crate::inputs::Rng;
 use crate::tof_level::rust_scale;
 use mscore::timstof::frame::TimsFrame;
-use rubzolena::{build_frame_bin_view_into, FrameRoom, FrameScratch, TofScale};
+use rubzolena::{build_frame_bin_view_into, rt_traces_for_im_peaks_by_bounds_into, FrameRoom, FrameScratch, Index, TofScale, WORDS};
 use std::cell::RefCell;
 use std::hint::black_box;
 
@@ -107,6 +108,66 @@ fn building(what: &str, frames: &[View]) {
     line(what, Some(bins as f64), sides[0].least, sides[1].least);
 }
 
+/// How peaks lie about points of the run: to either side so many TOF values and scans, and the pad.
+struct Reach {
+    name: &'static str,
+    tofs: u32,
+    scans: u32,
+    pad: u32,
+}
+
+const REACHES: [Reach; 3] = [
+    Reach { name: "narrow", tofs: 1, scans: 10, pad: 2 },
+    Reach { name: "200 bins", tofs: 200, scans: 10, pad: 0 },
+    Reach { name: "all bins and scans", tofs: 200_000, scans: 1_000, pad: 0 },
+];
+
+/// Peaks about points of the frames.
+fn peaks(frames: &[View], count: usize, reach: &Reach) -> Vec<[u32; WORDS]> {
+    let mut r = Rng::new(13);
+    (0..count)
+        .map(|_| {
+            let f = &frames[r.below(frames.len() as u64) as usize];
+            let k = r.below(f.tofs.len() as u64) as usize;
+            let (tof, scan) = (f.tofs[k], f.scans[k].min(SCANS - 1));
+            let mut w = [0; WORDS];
+            (w[2], w[3]) = (tof.saturating_sub(reach.tofs), tof + reach.tofs);
+            (w[14], w[15]) = (scan.saturating_sub(reach.scans), scan + reach.scans);
+            w
+        })
+        .collect()
+}
+
+/// Times the traces of peaks on both sides: the port's in one call, the Rust's in one a peak.
+fn traces(what: &str, frames: &[View], count: usize, reach: &Reach) {
+    let mut lists = Lists::new(frames);
+    let (bins, points) = lists.build(frames);
+    let index = Index {
+        starts: &lists.starts,
+        bins: &lists.bins[..bins],
+        offsets: &lists.offsets[..=bins],
+        scans: &lists.scans[..points],
+        readings: &lists.readings[..points],
+    };
+    let scale = rust_scale(&SCALE);
+    let views: Vec<_> = frames.iter().map(|f| build_frame_bin_view(f.rust_frame(), &scale, SCANS as usize)).collect();
+    let peaks = peaks(frames, count, reach);
+    let list = peaks.concat();
+    let (mut out, mut windows) = (vec![0.0; count * frames.len()], vec![0; 4 * count]);
+    let rust = Side::new(|| {
+        for w in black_box(&peaks) {
+            let tofs = (w[2] as i32, w[3] as i32);
+            black_box(rt_trace_for_im_peak_by_bounds(&views, &scale, tofs, reach.pad as usize, w[14] as usize, w[15] as usize));
+        }
+    });
+    let port = Side::new(|| {
+        black_box(rt_traces_for_im_peaks_by_bounds_into(black_box(index), SCALE, &list, reach.pad, &mut out, &mut windows)).unwrap();
+    });
+    let mut sides = [rust, port];
+    by_turns(&mut sides);
+    line(what, None, sides[0].least, sides[1].least);
+}
+
 /// The indexes whose name is asked for.
 pub fn run(asked: impl Fn(&str) -> bool) {
     for (frames, points) in [(1_000, 1_000), (100, 100), (1_000, 10), (10, 100_000)] {
@@ -114,6 +175,17 @@ pub fn run(asked: impl Fn(&str) -> bool) {
             let what = format!("index of {frames} x {points}, {}", kind.name);
             if asked(&what) {
                 building(&what, &made(kind, frames, points));
+            }
+        }
+    }
+    for (frames, points, count) in [(1_000, 1_000, 2_000), (1_000, 100, 2_000), (1_000, 10, 2_000), (1_000, 1_000, 1)] {
+        for kind in &KINDS {
+            for reach in &REACHES {
+                let what = format!("{count} traces over {frames} x {points}, {}, {}", kind.name, reach.name);
+                // reaching all of many points takes seconds a turn
+                if asked(&what) && (count == 1 || points < 1_000 || reach.tofs < 1_000) {
+                    traces(&what, &made(kind, frames, points), count, reach);
+                }
             }
         }
     }

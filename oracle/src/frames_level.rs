@@ -1,14 +1,17 @@
-//! The frame index through the C entry: frames and runs of frames, answers and refusals, with all lent buffers compared before and
-//! after. The Rust's own sort leaves the order of the points of a bin open, so that frames of more than 20 points are compared with
-//! the Rust whose sort keeps it (`stable`, see build.rs); up to 20 points both are.
-use crate::cluster::peak as plain;
+//! The frame index, marginals and traces through the C entries: frames, runs of frames and sums over them, answers and refusals, with all
+//! lent buffers compared before and after. The Rust's own sort leaves the order of the points of a bin open, so that frames of more than
+//! 20 points are compared with the Rust whose sort keeps it (`stable`, see build.rs); up to 20 points both are.
+use crate::cluster::peak::{self as plain, FrameBinView};
+use crate::cluster::utility::{build_im_marginal, build_rt_marginal};
 use crate::inputs::{any, reading, Rng};
 use crate::leaves::in_range;
+use crate::records::sound;
+use crate::stitch_level;
 use crate::stable;
 use crate::tof_level::{disagrees, rust_scale};
 use crate::{bits, Tally};
 use mscore::timstof::frame::{ImsFrame, TimsFrame};
-use rubzolena::{build_frame_bin_view_into, Frame, FrameRoom, FrameScratch, TofScale};
+use rubzolena::*;
 
 /// The most points for which the Rust's own sort keeps their order.
 const KEPT: usize = 20;
@@ -309,7 +312,482 @@ fn frames(t: &mut Tally, r: &mut Rng, count: u64) {
     }
 }
 
+// ---- a run of frames
+
+/// Joins frames with the port, one after another, and compares the index with the Rust's frames; some frames are refused on the way.
+fn run(t: &mut Tally, r: &mut Rng) {
+    let (scale, frames) = (scale(r), r.below(7));
+    let (mut index, mut expected) = (FrameIndex::default(), FrameIndex::default());
+    for _ in 0..frames {
+        let n = if r.one_in(4) { 0 } else { size(r).min(120) };
+        let mut call = sample(r, n, scale, 0);
+        if r.one_in(5) {
+            spoil(r, &mut call);
+            call.rooms = View::new(&[], scale, 0, 0).rooms.map(|k| k + call.tofs.len());
+            call.base = 0;
+        }
+        let (number, pushed) = (call.number(), index.push(call.frame(), call.scale, call.count));
+        t.same("run: number of a frame", &(n, call.scale, call.count), pushed.err().unwrap_or(0), number);
+        if number == 0 {
+            let [bins, offsets, scans, readings] = call.stable();
+            let points = expected.scans.len() as u32;
+            expected.bins.extend(bins);
+            expected.offsets.extend(offsets[1..].iter().map(|o| o + points));
+            expected.scans.extend(scans);
+            expected.readings.extend(readings.iter().map(|w| f32::from_bits(*w)));
+            expected.starts.push(expected.bins.len() as u32);
+        }
+    }
+    t.same("run: index", &(scale, frames), &index, &expected);
+}
+
+// ---- sums
+
+/// What is asked of an index, with the code of the function in the replayed lines.
+#[derive(Clone, Debug)]
+pub enum Asked {
+    Rt(Block),
+    Im(Block),
+    Row(u32, u32, (u32, u32)),
+    Bounds(TofScale, (u32, u32), u32, (u32, u32)),
+    Many(TofScale, Vec<u32>, u32),
+}
+
+/// A call: an index, what is asked of it, and the floats and words of the two lists that are lent.
+#[derive(Clone, Debug)]
+pub struct Sums {
+    pub index: FrameIndex,
+    pub asked: Asked,
+    pub rooms: [usize; 2],
+}
+
+fn climbs(list: &[u32], last: usize) -> bool {
+    list.first() == Some(&0) && list.last().is_some_and(|l| *l as usize == last) && list.windows(2).all(|w| w[0] <= w[1])
+}
+
+/// The first number of an index that applies and its number 23.
+fn index_numbers(i: &FrameIndex) -> [bool; 5] {
+    let (bins, points) = (i.bins.len(), i.scans.len());
+    let lengths = i.starts.is_empty() || i.offsets.len() != bins + 1 || i.readings.len() != points;
+    let sizes = i.starts.len() > 16_385 || points > 16_777_216 || bins > 16_777_216;
+    let readings = !i.readings.iter().all(|x| in_range(*x, 4294967296.0));
+    let scans = i.scans.iter().any(|s| *s > 65_535);
+    let form = !climbs(&i.starts, bins)
+        || !climbs(&i.offsets, points)
+        || i.bins.iter().any(|b| *b > HIGHEST)
+        || i.starts.windows(2).any(|w| i.bins[w[0] as usize..w[1] as usize].windows(2).any(|b| b[0] >= b[1]));
+    [lengths, sizes, readings, scans, form]
+}
+
+fn sound_step(s: &TofScale) -> bool {
+    (1..=65_536).contains(&s.tof_step)
+}
+
+fn sound_ends(s: &TofScale) -> bool {
+    s.tof_min.max(s.tof_max) <= HIGHEST
+}
+
+/// How many a range has, ends included.
+fn count((lo, hi): (u32, u32)) -> usize {
+    (hi as usize + 1).saturating_sub(lo as usize)
+}
+
+impl Sums {
+    /// With just as much room as is asked for.
+    pub fn new(index: FrameIndex, asked: Asked) -> Self {
+        let mut call = Sums { index, asked, rooms: [0; 2] };
+        call.rooms = [call.sums(), call.words()];
+        call
+    }
+
+    pub fn frames(&self) -> usize {
+        self.index.starts.len().saturating_sub(1)
+    }
+
+    /// How many sums are asked for, and how many words of scratch.
+    fn sums(&self) -> usize {
+        match &self.asked {
+            Asked::Rt(b) => count(b.frames).min(16_384),
+            Asked::Im(b) => count(b.scans).min(65_536),
+            Asked::Row(..) | Asked::Bounds(..) => self.frames(),
+            Asked::Many(_, list, _) => list.len() / WORDS * self.frames(),
+        }
+    }
+
+    fn words(&self) -> usize {
+        if let Asked::Many(_, list, _) = &self.asked { 4 * (list.len() / WORDS) } else { 0 }
+    }
+
+    /// Document 01's number, 0 for none.
+    pub fn number(&self) -> u32 {
+        let [lengths, sizes, readings, scans, form] = index_numbers_or_lengths(&self.index);
+        let frames = self.frames();
+        let (mut one, mut two, mut four, mut five, mut nine, mut scale) = (lengths, sizes, false, scans, false, false);
+        let mut by = |s: &TofScale, four: &mut bool, five: &mut bool| {
+            *four |= !sound_step(s);
+            *five |= !sound_ends(s);
+            scale = s.tof_step == 0 || disagrees(s);
+        };
+        match &self.asked {
+            Asked::Rt(b) | Asked::Im(b) => {
+                four = b.frames.0 > b.frames.1
+                    || b.frames.1 as usize >= frames
+                    || b.bins.0 > b.bins.1
+                    || b.bins.1 > HIGHEST
+                    || b.scans.0 > b.scans.1;
+                five |= b.scans.1 > 65_535;
+            }
+            Asked::Row(row, pad, scans) => {
+                four = *row > HIGHEST || *pad > 65_535;
+                five |= scans.0.max(scans.1) > 65_535;
+            }
+            Asked::Bounds(s, tofs, pad, scans) => {
+                by(s, &mut four, &mut five);
+                four |= *pad > 65_535;
+                five |= tofs.0.max(tofs.1) > HIGHEST + 65_536 || scans.0.max(scans.1) > 65_535;
+            }
+            Asked::Many(s, list, pad) => {
+                by(s, &mut four, &mut five);
+                one |= list.len() % WORDS != 0;
+                two |= list.len() / WORDS > 65_536;
+                four |= *pad > 65_535;
+                nine = !list.chunks_exact(WORDS).all(sound);
+            }
+        }
+        let room = self.rooms[0] < self.sums();
+        let scratch = self.rooms[1] < self.words();
+        let checks = [(1, one), (2, two), (3, readings), (4, four), (5, five), (9, nine), (20, room), (21, scratch), (22, scale), (23, form)];
+        checks.iter().find(|c| c.1).map_or(0, |c| c.0)
+    }
+
+    /// The Rust's frames.
+    pub fn rust_frames(&self) -> Vec<FrameBinView> {
+        rust_frames(&self.index)
+    }
+
+    /// The sums that the Rust gives.
+    pub fn rust(&self) -> Vec<f32> {
+        let frames = self.rust_frames();
+        let range = |(a, b): (u32, u32)| (a as usize, b as usize);
+        match &self.asked {
+            Asked::Rt(b) | Asked::Im(b) => {
+                let (rt, bins, scans) = (range(b.frames), range(b.bins), range(b.scans));
+                let marginal = if matches!(self.asked, Asked::Rt(_)) { build_rt_marginal } else { build_im_marginal };
+                marginal(&frames, rt.0, rt.1, bins.0, bins.1, scans.0, scans.1)
+            }
+            Asked::Row(row, pad, scans) => plain::rt_trace_for_im_peak(&frames, *row as usize, *pad as usize, scans.0 as usize, scans.1 as usize),
+            Asked::Bounds(s, tofs, pad, scans) => by_bounds(&frames, &rust_scale(s), *tofs, *pad, *scans),
+            Asked::Many(s, list, pad) => {
+                let s = rust_scale(s);
+                list.chunks_exact(WORDS).flat_map(|w| by_bounds(&frames, &s, (w[2], w[3]), *pad, (w[14], w[15]))).collect()
+            }
+        }
+    }
+
+    /// The port's answer, and what the lists hold then, as bits.
+    pub fn port(&self, out: &mut [f32], windows: &mut [u32]) -> Result<usize, u32> {
+        let index = Index::from(&self.index);
+        match &self.asked {
+            Asked::Rt(b) => build_rt_marginal_into(index, *b, out),
+            Asked::Im(b) => build_im_marginal_into(index, *b, out),
+            Asked::Row(row, pad, scans) => rt_trace_for_im_peak_into(index, *row, *pad, *scans, out),
+            Asked::Bounds(s, tofs, pad, scans) => rt_trace_for_im_peak_by_bounds_into(index, *s, *tofs, *pad, *scans, out),
+            Asked::Many(s, list, pad) => rt_traces_for_im_peaks_by_bounds_into(index, *s, list, *pad, out, windows),
+        }
+    }
+}
+
+/// The Rust's frames of an index.
+pub fn rust_frames(i: &FrameIndex) -> Vec<FrameBinView> {
+    let frame = |w: &[u32]| {
+        let (s, e) = (w[0] as usize, w[1] as usize);
+        let (from, to) = (i.offsets[s] as usize, i.offsets[e] as usize);
+        FrameBinView {
+            _frame_id: 0,
+            unique_bins: i.bins[s..e].iter().map(|b| *b as usize).collect(),
+            offsets: i.offsets[s..=e].iter().map(|o| *o as usize - from).collect(),
+            scan_idx: i.scans[from..to].to_vec(),
+            intensity: i.readings[from..to].to_vec(),
+        }
+    };
+    i.starts.windows(2).map(frame).collect()
+}
+
+fn by_bounds(frames: &[FrameBinView], s: &crate::cluster::utility::TofScale, tofs: (u32, u32), pad: u32, scans: (u32, u32)) -> Vec<f32> {
+    plain::rt_trace_for_im_peak_by_bounds(frames, s, (tofs.0 as i32, tofs.1 as i32), pad as usize, scans.0 as usize, scans.1 as usize)
+}
+
+/// The numbers of an index; where its lengths do not agree, or starts fall or pass the bins, its form cannot be asked further.
+fn index_numbers_or_lengths(i: &FrameIndex) -> [bool; 5] {
+    if i.starts.is_empty() {
+        return [true; 5];
+    }
+    if !climbs(&i.starts, i.bins.len()) {
+        let flat = FrameIndex { starts: vec![0; i.starts.len()], ..i.clone() };
+        let [lengths, sizes, readings, scans, _] = index_numbers(&flat);
+        return [lengths, sizes, readings, scans, true];
+    }
+    index_numbers(i)
+}
+
+/// Compares a call on an index.
+fn summed(t: &mut Tally, c: &Sums) {
+    let mut out: Vec<f32> = (0..c.rooms[0]).map(|k| f32::from_bits(k as u32 ^ 0x5555_5555)).collect();
+    let mut windows: Vec<u32> = (0..c.rooms[1]).map(|k| k as u32 ^ 0x3333_3333).collect();
+    let (mut expected, before) = (out.clone(), windows.clone());
+    let port = c.port(&mut out, &mut windows);
+    let number = c.number();
+    let small = c.index.bins.len() < 8;
+    let shown = (&c.asked, c.rooms, c.index.starts.len(), c.index.bins.len(), if small { Some(&c.index) } else { None });
+    let mut answer = Err(number);
+    let mut open = 0;
+    if number == 0 {
+        let sums = c.rust();
+        answer = Ok(if let Asked::Many(_, list, _) = &c.asked { list.len() / WORDS } else { sums.len() });
+        expected[..sums.len()].copy_from_slice(&sums);
+        open = c.words();
+    }
+    t.same("sums: count or number", &shown, port, answer);
+    let words = |l: &[f32]| l.iter().map(|x| x.to_bits()).collect::<Vec<u32>>();
+    t.same("sums: the list", &shown, words(&out), words(&expected));
+    t.same("sums: scratch that is not as it was", &shown, windows[open..] != before[open..], false);
+}
+
+/// An index that no frame was built for: empty frames, empty bins, bins of any height, readings for which the order of additions shows.
+fn any_index(r: &mut Rng) -> FrameIndex {
+    let mut i = FrameIndex::default();
+    let frames = if r.one_in(200) { 300 } else { r.below(9) };
+    let (gap, most) = (r.pick(&[1, 1, 2, 3, 50, 1_000_000]), r.pick(&[1, 2, 4, 9, 30]));
+    let (start, reach) = (r.pick(&[0, 0, 1, 7, HIGHEST - 5, HIGHEST]), r.pick(&[1, 3, 10, 40]));
+    let (wide, kind) = (r.pick(&[1, 4, 20, 65_536]), r.below(11));
+    for _ in 0..frames {
+        let mut bin = start.saturating_sub(r.below(reach) as u32);
+        let bins = if r.one_in(4) { 0 } else { r.below(most + 1) };
+        for _ in 0..bins {
+            if bin > HIGHEST {
+                break;
+            }
+            i.bins.push(bin);
+            bin += 1 + r.below(gap) as u32;
+            let points = if r.one_in(5) { 0 } else { r.below(most + 1) };
+            for _ in 0..points {
+                let scan = r.below(wide) as u32;
+                i.scans.push(if r.one_in(30) { 65_535 } else { scan });
+                let k = if kind == 10 { r.below(9) } else { kind.min(8) };
+                let x = reading(r, k);
+                i.readings.push(if r.one_in(6) { r.pick(&[16777216.0, 1.0, 4294967296.0, 0.5]) } else { x });
+            }
+            i.offsets.push(i.scans.len() as u32);
+        }
+        i.starts.push(i.bins.len() as u32);
+    }
+    i
+}
+
+/// An index that the port built of frames, and their scale.
+fn built_index(r: &mut Rng) -> (FrameIndex, TofScale) {
+    let scale = scale(r);
+    let mut i = FrameIndex::default();
+    for _ in 0..r.below(6) {
+        let n = size(r).min(150);
+        let call = sample(r, n, scale, 0);
+        i.push(call.frame(), scale, call.count).unwrap();
+    }
+    (i, scale)
+}
+
+/// A value of a list or near one, or any to a limit.
+fn near(r: &mut Rng, list: &[u32], limit: u32) -> u32 {
+    let some = if list.is_empty() { 0 } else { r.pick(list) };
+    match r.below(8) {
+        0 => r.below(limit as u64 + 1) as u32,
+        1 => r.pick(&[0, limit]),
+        _ => (some + r.below(4) as u32).saturating_sub(r.below(4) as u32).min(limit),
+    }
+}
+
+fn range(r: &mut Rng, list: &[u32], limit: u32, reversed: bool) -> (u32, u32) {
+    let (a, b) = (near(r, list, limit), near(r, list, limit));
+    if reversed && r.one_in(4) { (a.max(b), a.min(b)) } else { (a.min(b), a.max(b)) }
+}
+
+/// What is asked of an index: windows about its bins and scans, pads that reach past both ends.
+fn ask(r: &mut Rng, i: &FrameIndex, s: TofScale) -> Asked {
+    let last = i.starts.len().saturating_sub(2) as u32;
+    let pad = r.pick(&[0, 0, 1, 2, 3, 40, 65_535]);
+    let tofs: Vec<u32> = i.bins.iter().map(|b| (s.tof_min as u64 + *b as u64 * s.tof_step as u64).min(HIGHEST as u64) as u32).collect();
+    let block = |r: &mut Rng| Block { frames: range(r, &[0, last], last, false), bins: range(r, &i.bins, HIGHEST, false), scans: range(r, &i.scans, 65_535, false) };
+    match r.below(6) {
+        0 => Asked::Rt(block(r)),
+        1 => Asked::Im(block(r)),
+        2 => Asked::Row(near(r, &i.bins, HIGHEST), pad, range(r, &i.scans, 65_535, true)),
+        3 => Asked::Bounds(s, range(r, &tofs, HIGHEST + 65_536, true), pad, range(r, &i.scans, 65_535, true)),
+        _ => {
+            let n = if r.one_in(10) { 0 } else { 1 + r.below(12) as usize };
+            let params = stitch_level::params(r);
+            let mut list = stitch_level::list(r, n, &params);
+            for w in list.chunks_exact_mut(WORDS) {
+                (w[2], w[3]) = range(r, &tofs, HIGHEST + 65_536, false);
+                (w[14], w[15]) = range(r, &i.scans, 65_535, false);
+            }
+            Asked::Many(s, list, pad)
+        }
+    }
+}
+
+fn bad(r: &mut Rng, limit: u32) -> u32 {
+    r.pick(&[limit, limit + 1, u32::MAX])
+}
+
+/// Makes something of a call on an index wrong, or brings it to its limit.
+fn spoil_sums(r: &mut Rng, c: &mut Sums) {
+    let i = &mut c.index;
+    let at = |r: &mut Rng, n: usize| r.below(n.max(1) as u64) as usize;
+    let (s, b, o, p) = (at(r, i.starts.len()), at(r, i.bins.len()), at(r, i.offsets.len()), at(r, i.scans.len()));
+    let word = r.next() as u32 >> r.below(32);
+    match r.below(16) {
+        0 => i.starts.truncate(r.below(2) as usize),
+        1 => i.offsets.push(i.scans.len() as u32),
+        2 => i.readings.push(1.0),
+        3 if r.one_in(20) => i.starts.resize(16_385 + r.below(2) as usize, i.bins.len() as u32),
+        3 | 4 => i.starts.get_mut(s).into_iter().for_each(|x| *x = r.pick(&[word, *x + 1, x.saturating_sub(1)])),
+        5 | 6 => i.offsets.get_mut(o).into_iter().for_each(|x| *x = r.pick(&[word, *x + 1, x.saturating_sub(1)])),
+        7 => i.bins.get_mut(b).into_iter().for_each(|x| *x = r.pick(&[word, *x + 1, x.saturating_sub(1), HIGHEST, HIGHEST + 1])),
+        8 => i.scans.get_mut(p).into_iter().for_each(|x| *x = r.pick(&[65_535, 65_536, u32::MAX])),
+        9 => {
+            let any = any(r);
+            i.readings.get_mut(p).into_iter().for_each(|x| *x = r.pick(&[any, -0.0, 4294967296.0, 4294967808.0, f32::NAN]));
+        }
+        10 => c.rooms[0] = r.pick(&[0, c.rooms[0].saturating_sub(1)]),
+        11 => c.rooms[1] = r.pick(&[0, c.rooms[1].saturating_sub(1)]),
+        _ => match &mut c.asked {
+            Asked::Rt(b) | Asked::Im(b) => match r.below(6) {
+                0 => b.frames = (b.frames.1, b.frames.0),
+                1 => b.bins = (b.bins.1, b.bins.0),
+                2 => b.scans = (b.scans.1, b.scans.0),
+                3 => b.frames.1 = r.pick(&[b.frames.1 + 1, 16_383, u32::MAX]),
+                4 => b.bins.1 = bad(r, HIGHEST),
+                _ => b.scans.1 = bad(r, 65_535),
+            },
+            Asked::Row(row, pad, scans) => match r.below(4) {
+                0 => *row = bad(r, HIGHEST),
+                1 => *pad = bad(r, 65_535),
+                2 => scans.0 = bad(r, 65_535),
+                _ => scans.1 = bad(r, 65_535),
+            },
+            Asked::Bounds(s, tofs, pad, scans) => match r.below(7) {
+                0 => tofs.0 = bad(r, HIGHEST + 65_536),
+                1 => tofs.1 = bad(r, HIGHEST + 65_536),
+                2 => *pad = bad(r, 65_535),
+                3 => scans.0 = bad(r, 65_535),
+                4 => scans.1 = bad(r, 65_535),
+                _ => spoil_scale(r, s),
+            },
+            Asked::Many(s, list, pad) => match r.below(5) {
+                0 => list.truncate(list.len().saturating_sub(1 + r.below(30) as usize)),
+                1 if r.one_in(30) => *list = vec![0; 65_537 * WORDS],
+                1 => *pad = bad(r, 65_535),
+                2 => spoil_scale(r, s),
+                _ if list.is_empty() => {}
+                _ => {
+                    let k = r.below(list.len() as u64) as usize;
+                    list[k] = r.pick(&[word, 0, HIGHEST + 65_537, 65_536, u32::MAX]);
+                }
+            },
+        },
+    }
+}
+
+fn spoil_scale(r: &mut Rng, s: &mut TofScale) {
+    match r.below(4) {
+        0 => s.tof_step = r.pick(&[0, 65_536, 65_537, u32::MAX, s.tof_step + 1]),
+        1 => s.tof_min = r.pick(&[s.tof_min + 1, HIGHEST, HIGHEST + 1, u32::MAX, 0]),
+        2 => s.tof_max = r.pick(&[s.tof_max + 1, HIGHEST, HIGHEST + 1, u32::MAX, 0]),
+        _ => s.num_bins = r.pick(&[s.num_bins + 1, s.num_bins - s.num_bins.min(1), 0, u32::MAX]),
+    }
+}
+
+pub fn sample_sums(r: &mut Rng) -> Sums {
+    let (index, s) = if r.one_in(2) { built_index(r) } else { (any_index(r), scale(r)) };
+    let asked = ask(r, &index, s);
+    let mut call = Sums::new(index, asked);
+    call.rooms = call.rooms.map(|room| room + r.below(3) as usize * r.below(5) as usize);
+    call
+}
+
+/// Calls with the corners of document 01 and of docs/DIFFERENCES.md, with what each shows.
+pub fn sum_corners() -> Vec<(&'static str, Sums)> {
+    let index = |frames: &[&[(u32, &[(u32, f32)])]]| {
+        let mut i = FrameIndex::default();
+        for f in frames {
+            for (bin, points) in *f {
+                i.bins.push(*bin);
+                i.scans.extend(points.iter().map(|p| p.0));
+                i.readings.extend(points.iter().map(|p| p.1));
+                i.offsets.push(i.scans.len() as u32);
+            }
+            i.starts.push(i.bins.len() as u32);
+        }
+        i
+    };
+    let order = [(3u32, 16777216.0f32), (4, 1.0), (3, 1.0)];
+    let two = index(&[&[(4, &order), (5, &[(3, 1.0), (9, 2.0)])], &[], &[(5, &[(3, 8.0)]), (6, &[]), (9, &[(4, 16.0)])]]);
+    let s = TofScale { tof_min: 8, tof_max: 24, tof_step: 4, num_bins: 5 };
+    let block = Block { frames: (0, 2), bins: (4, 5), scans: (3, 4) };
+    let none = FrameIndex::default();
+    let mut many = [0; 2 * WORDS];
+    (many[2], many[3], many[14], many[15]) = (24, 28, 3, 4);
+    vec![
+        ("no frames", Sums::new(none.clone(), Asked::Row(0, 0, (0, 0)))),
+        ("no frames, and a marginal past them", Sums::new(none, Asked::Rt(block))),
+        ("the order of additions: 2^24 and ones", Sums::new(two.clone(), Asked::Rt(block))),
+        ("the same by scan", Sums::new(two.clone(), Asked::Im(block))),
+        ("the last bin of a range", Sums::new(two.clone(), Asked::Rt(Block { bins: (6, 9), ..block }))),
+        ("a range between bins", Sums::new(two.clone(), Asked::Im(Block { bins: (7, 8), ..block }))),
+        ("the scan at the end of a range", Sums::new(two.clone(), Asked::Im(Block { scans: (3, 9), ..block }))),
+        ("a pad below 0", Sums::new(two.clone(), Asked::Row(3, 5, (0, 65_535)))),
+        ("a reversed scan range", Sums::new(two.clone(), Asked::Row(5, 0, (4, 3)))),
+        ("the highest row and pad", Sums::new(two.clone(), Asked::Row(4_194_303, 65_535, (0, 65_535)))),
+        ("bounds below the scale: its first bin", Sums::new(two.clone(), Asked::Bounds(s, (0, 8), 4, (0, 65_535)))),
+        ("bounds above the scale: its last bin, and one past it", Sums::new(two.clone(), Asked::Bounds(s, (4_259_839, 24), 1, (0, 65_535)))),
+        ("bounds in the other order", Sums::new(two.clone(), Asked::Bounds(s, (27, 23), 0, (0, 65_535)))),
+        ("two peaks", Sums::new(two, Asked::Many(s, many.to_vec(), 1))),
+    ]
+}
+
+/// The sizes of number 2, at and past their limits.
+fn sizes(t: &mut Tally) {
+    let none = FrameIndex::default();
+    let row = Asked::Row(0, 0, (0, 0));
+    for more in [0, 1] {
+        let starts = vec![0; 16_385 + more];
+        summed(t, &Sums::new(FrameIndex { starts, ..none.clone() }, row.clone()));
+        let n = 16_777_216 + more;
+        let points = FrameIndex { starts: vec![0, 1], bins: vec![0], offsets: vec![0, n as u32], scans: vec![0; n], readings: vec![1.0; n] };
+        summed(t, &Sums::new(points, row.clone()));
+        let starts = (0..=n as u32).step_by(4_194_304).chain([n as u32]).collect();
+        let bins = FrameIndex { starts, bins: (0..n as u32).map(|b| b % 4_194_304).collect(), offsets: vec![0; n + 1], ..none.clone() };
+        summed(t, &Sums::new(bins, row.clone()));
+    }
+}
+
 pub fn compare(t: &mut Tally, count: u64) {
     let mut r = Rng::new(10);
     frames(t, &mut r, count);
+    for _ in 0..count / 4 {
+        run(t, &mut r);
+    }
+    if count >= 10_000 {
+        sizes(t);
+    }
+    for (_, call) in sum_corners() {
+        summed(t, &call);
+    }
+    for _ in 0..count {
+        let mut call = sample_sums(&mut r);
+        while r.one_in(3) {
+            spoil_sums(&mut r, &mut call);
+        }
+        summed(t, &call);
+    }
 }

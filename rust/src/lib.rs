@@ -1,12 +1,15 @@
-//! Rubzolena's grid detection, stitching and frame index for Rust programs: safe functions over the C entries. Words and floats are handed
-//! over as they lie in memory, which is the byte rule of grid detection on a little-endian machine.
+//! Rubzolena's grid detection, stitching, frame index, marginals and retention traces for Rust programs: safe functions over the C
+//! entries. Words and floats are handed over as they lie in memory, which is the byte rule of grid detection on a little-endian machine.
 #[cfg(not(target_endian = "little"))]
 compile_error!("the C entry takes little-endian words");
 
 mod frames;
 mod stitching;
 
-pub use frames::{build_frame_bin_view_into, Frame, FrameIndex, FrameRoom, FrameScratch};
+pub use frames::{
+    build_frame_bin_view_into, build_im_marginal_into, build_rt_marginal_into, rt_trace_for_im_peak_by_bounds_into,
+    rt_trace_for_im_peak_into, rt_traces_for_im_peaks_by_bounds_into, Block, Frame, FrameIndex, FrameRoom, FrameScratch, Index,
+};
 pub use stitching::{stitch, stitch_into, Scratch, StitchParams};
 
 use std::mem::size_of_val;

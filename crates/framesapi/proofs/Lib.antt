@@ -1,2 +1,4 @@
--- Laws of the C entries.
-pub mod Laws
+-- Laws of the words that C entries answer.
+pub mod Words
+pub mod ViewWords
+pub mod SumWords

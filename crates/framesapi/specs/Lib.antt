@@ -2,3 +2,7 @@
 pub mod Word
 pub mod Scale
 pub mod View
+pub mod Sums
+pub mod Marginals
+pub mod Traces
+pub mod ManyTraces

@@ -5,11 +5,13 @@ ghost use mathlib.Core.Path.{_≡_};
 ghost use Prim.Native.Nat.{_<_, _^_};
 ghost use Rattle.frameview.specs.Answer.{frameOf, lentOf};
 ghost use Rattle.framesapi.specs.Scale.{scaleOf};
-ghost use Rattle.framesapi.specs.View.{wordOf, Answered};
+ghost use Rattle.frameview.specs.ViewNumber.{viewSays};
+ghost use Rattle.framesapi.specs.Word.{wordOf};
+ghost use Rattle.framesapi.specs.View.{binsIn, Answered};
 
 fn word_of(answer: ViewAnswer) -> u64
-    requires { ⌜ wordOf answer < 2 ^ 64 ⌝ }
-    ensures { λ r. ⌜ r ≡ wordOf answer ⌝ }
+    requires { ⌜ wordOf binsIn (viewSays answer) < 2 ^ 64 ⌝ }
+    ensures { λ r. ⌜ r ≡ wordOf binsIn (viewSays answer) ⌝ }
 {
     match answer {
         ViewAnswer::Built(bins, _) => (bins as u64) * 64,

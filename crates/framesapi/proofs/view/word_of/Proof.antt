@@ -1,42 +1,27 @@
-use mathlib.Core.Path.{_≡_, refl, sym, _∙_, ap, subst}
-use mathlib.Core.Bool.{Bool, true, false, cond}
-use mathlib.Core.List.{List, [], _∷_, _++_}
-use mathlib.Core.Logic.{⊎-elim}
-use Prim.Native.Nat.{ℕ, zero, suc, _≤_, _<_, _-_, _+_, _*_}
-use native.Mathlib.Omega.{arith}
+use mathlib.Core.Path.{refl}
 use borrow.Author.Needs.{needs}
-use lib.Dec.{T, ltb, leb, eqb}
-use lib.ListN.{length, getD, drop, take, set}
-use lib.Ieee.{Float, nan, binary32, lt}
-use Rattle.framesapi.proofs.Laws.{fits-built, built-word, refused-word}
+use Rattle.framesapi.specs.View.{binsIn}
+use Rattle.framesapi.proofs.Words.{count-word, number-word, word-count}
 use Rattle.framesapi.proofs.view.word_of.Statement.{statement}
 use Rattle.framesapi.proofs.view.word_of.Tie as tie
-use Rattle.framesapi.proofs.view.word_of.Reads as reads
-use Rattle.framesapi.proofs.view.word_of.Lts as lts
 
--- src/view.rt:15:27
 enum-known-answer : tie.Need-enum-known-answer
 enum-known-answer c = search needs
 
--- src/view.rt:15:39
 mul-result : tie.Need-mul-result
-mul-result c = record { fits = fits-built _ _ (rw (c .before .answer .given .1) at (c .before .before .before .pre)) }
+mul-result c = record { fits = word-count binsIn (c .before .answer .given .0 .0, c .before .answer .given .0 .1 .0) (rw (c .before .answer .given .1) at (c .before .before .before .pre)) }
 
--- src/view.rt:16:29
 enum-known-answer-2 : tie.Need-enum-known-answer-2
 enum-known-answer-2 c = search needs
 
--- src/view.rt:16:36
 cast-result : tie.Need-cast-result
 cast-result c = search needs
 
--- src/view.rt:10:1
 returns : tie.Need-returns
-returns c = rw (c .before .answer .given .1) (built-word _ _)
+returns c = rw (c .before .answer .given .1) (count-word binsIn (c .before .answer .given .0 .0, c .before .answer .given .0 .1 .0) _ refl)
 
--- src/view.rt:10:1
 returns-2 : tie.Need-returns-2
-returns-2 c = rw (c .before .answer2 .given .1) (refused-word _)
+returns-2 c = rw (c .before .answer2 .given .1) (number-word binsIn _)
 
 pub word-of-spec : {M : Type 1} → statement M
 word-of-spec =
