@@ -1,15 +1,12 @@
 -- Which apexes of a retention trace are listed, and in which order: y is the smoothed trace, z the raw one, t the times, one a
 -- frame. An apex is the index of its frame.
-use mathlib.Core.Bool.{Bool, not, _&&_}
-use mathlib.Core.List.{List, [], _∷_, map}
-use Prim.Native.Nat.{ℕ, _-_}
+use mathlib.Core.Bool.{Bool, not}
+use mathlib.Core.List.{List, map}
+use Prim.Native.Nat.{ℕ}
 use lib.Dec.{ltb}
-use lib.ListN.{length}
-use lib.Ieee.{Float, binary32, lt, le, ofBits}
-use Rattle.numeric.specs.Arith.{_⊘_, 𝟎, at}
-use Rattle.numeric.specs.Numeric.{maxF}
+use lib.Ieee.{Float, lt}
+use Rattle.numeric.specs.Arith.{at}
 use Rattle.numeric.specs.Plain.{word}
-use Rattle.area.specs.Area.{whole}
 use Rattle.params.specs.declared.ImDetectParams.{ImDetectParams}
 use Rattle.rowsearch.specs.Qualifying.{qualifying}
 use Rattle.rtrecord.specs.declared.RtLocalPeak.{RtLocalPeak}
@@ -17,6 +14,7 @@ use Rattle.rtapex.specs.InTime.{apexTime, seconds, apexArea, localPeakOf}
 use Rattle.chosen.specs.Chosen.{chosen, passing}
 use Rattle.chosen.specs.Ranking.{before, orderedBy}
 use Rattle.chosen.specs.Times.{nearInTime}
+use Rattle.rtplaces.specs.Shares.{traceArea, bestArea, meetsShares}
 
 -- ---- qualifying apexes
 
@@ -62,37 +60,6 @@ unfoldable pub chosenApexes : Float → Float → Float → List Float → List 
 chosenApexes floor sep minWidth y z t = chosen (nearInTime (apexTime y t) sep) (orderedBy (higherFirst y) (rtQualifying floor minWidth y z t))
 
 -- ---- shares
-
--- the raw area of the trace: all its segments, the last one too
-unfoldable pub totalArea : List Float → Float
-totalArea z = whole z (length z - 1) 0 𝟎
-
--- the largest of a value and the areas of some apexes
-unfoldable pub largest : (ℕ → Float) → Float → List ℕ → Float
-largest area m [] = m
-largest area m (i ∷ is) = largest area (maxF m (area i)) is
-
--- no area is divided by less than 1e-6
-abbrev pub leastArea : Float
-leastArea = ofBits binary32 0x3586_37bd
-
--- the least shares: 0.02 of the trace, and 0.05 of the best apex
-abbrev pub leastOfTrace : Float
-leastOfTrace = ofBits binary32 0x3ca3_d70a
-
-abbrev pub leastOfBest : Float
-leastOfBest = ofBits binary32 0x3d4c_cccd
-
--- the two areas that an apex is compared with: that of the trace, and the largest of the chosen apexes cs
-unfoldable pub traceArea : List Float → Float
-traceArea z = maxF (totalArea z) leastArea
-
-unfoldable pub bestArea : (ℕ → Float) → List ℕ → Float
-bestArea area cs = maxF (largest area 𝟎 cs) leastArea
-
--- an area that meets both shares
-unfoldable pub meetsShares : Float → Float → Float → Bool
-meetsShares trace best area = le leastOfTrace (area ⊘ trace) && le leastOfBest (area ⊘ best)
 
 -- an apex that meets both
 abbrev pub hasShares : List Float → List Float → List ℕ → ℕ → Bool
