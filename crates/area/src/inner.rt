@@ -45,7 +45,8 @@ fn head_of(y: &[f32], s: usize, x0: f32) -> f32
     0.0 + strip_of(y0, y[s + 1], 1.0 - t0)
 }
 
-fn whole_segments(y: &[f32], from: usize, to: usize, start: f32) -> f32
+// The sum of a start and the whole segments between two samples, added one after another.
+pub fn whole_segments(y: &[f32], from: usize, to: usize, start: f32) -> f32
     requires { ⌜ to < length (now y) ⌝ }
     ensures { λ r. ⌜ r ≡ whole (now (y .entry)) (to - from) from start ⌝ }
 {

@@ -1,0 +1,2 @@
+// The choice among apexes that lie close in time.
+pub mod inner;

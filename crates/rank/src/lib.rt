@@ -1,0 +1,2 @@
+// The element at a rank, for noise and time steps.
+pub mod inner;

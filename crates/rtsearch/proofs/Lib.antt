@@ -1,0 +1,3 @@
+-- What the proofs of functions cite.
+pub mod Orders
+pub mod Listed
