@@ -1,5 +1,5 @@
--- Retention peaks as words: a list of peaks is a list of words, as many for each peak, floats as their bit patterns. There are
--- two kinds of records, which begin alike: those of one trace, and those of the run.
+-- Retention peaks as words: a list of peaks is a list of words, as many for each peak, floats as their bit patterns. There are two
+-- kinds of records, which begin alike: local ones, of the search of one trace, and those that expansion delivers, called those of the run.
 use mathlib.Core.Bool.{cond}
 use mathlib.Core.List.{List, [], _∷_, _++_}
 use Prim.Native.Nat.{ℕ, _+_, _*_, _%_}

@@ -4,9 +4,8 @@ pub mod inner;
 // Peak identities. They stand last in a record, and are read and written only by the functions that name them.
 pub use limits::PeakId;
 
-// What a retention peak is, wherever it is kept: its apex, in frames and in seconds, its heights, its ends and the area
-// between them. Frames are counted from the first of the trace that is worked on, or from the first of the run, as the record
-// that holds it says.
+// What both kinds of records begin with: the apex of a retention peak in frames and in seconds, its heights, its ends and the
+// area between them.
 pub struct RtApex {
     pub rt_idx: u32,
     pub rt_sec: f32,
@@ -45,8 +44,9 @@ impl RtApex {
     pub const SUBFRAME: usize = 9;
 }
 
-// A retention peak: frames are those of the run. One field may be missing, the window group. A bit of `flags` tells whether
-// it is there, and a missing one is 0.
+// A retention peak, with what it takes over from its mobility peak. Expansion counts frames from the first of the run; the
+// fallback by itself counts them from the first of its trace. One field may be missing, the window group. A bit of `flags`
+// tells whether it is there, and a missing one is 0.
 pub struct RtPeak1D {
     pub apex: RtApex,
     pub rt_lo: u32,

@@ -1,6 +1,6 @@
--- The time at a place of a time axis, which has one time a frame, and axes that do not fall. A place is given in frames, with a fraction: 2.5 lies in
--- the middle between the frames 2 and 3. Every operation is rounded once, in this order, so that the time at a place can lie an
--- ulp outside of the times of the two frames.
+-- The time at a place of a time axis, which has one time a frame, and axes that do not fall. A place is given in frames, with a
+-- fraction: 2.5 lies in the middle between the frames 2 and 3. Every operation is rounded once, in this order, so that the time
+-- at a place can lie an ulp outside of the times of the two frames.
 use mathlib.Core.Bool.{Bool, true, not, cond, _&&_}
 use mathlib.Core.List.{List, [], _∷_}
 use Prim.Native.Nat.{ℕ, _+_, _-_, min}

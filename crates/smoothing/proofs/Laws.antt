@@ -262,7 +262,7 @@ pub normalised-length : (ws : List Float) → length (normalised ws) ≡ length 
 unfolding normalised
 normalised-length ws = length-map ws _
 
-sound-count : (ws : List Float) → soundWeights ws ≡ true → length ws ≤ maxWeights
+pub sound-count : (ws : List Float) → soundWeights ws ≡ true → length ws ≤ maxWeights
 unfolding soundWeights
 sound-count ws e = leb-true (length ws) maxWeights (all4 (eqb (length ws % 2) 1) e .1)
 

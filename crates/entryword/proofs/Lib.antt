@@ -1,0 +1,2 @@
+-- What a word tells.
+pub mod Words

@@ -1,0 +1,2 @@
+-- The word that a C entry answers.
+pub mod Word

@@ -1,0 +1,2 @@
+-- What the proofs of `expandone` cite.
+pub mod Laws

@@ -1,0 +1,2 @@
+-- The definitions that the contracts of `expandone` cite.
+pub mod Steps

@@ -1,0 +1,2 @@
+-- What the proofs of `expandpeak` cite.
+pub mod Laws

@@ -1,0 +1,3 @@
+-- The definitions that the contracts of `expandpeak` cite.
+pub mod Expanded
+pub mod Steps

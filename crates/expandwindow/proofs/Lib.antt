@@ -1,0 +1,2 @@
+-- What the proofs of `expandwindow` cite.
+pub mod WindowLaws
