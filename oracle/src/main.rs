@@ -13,6 +13,7 @@ mod inputs;
 mod leaves;
 mod probe;
 mod records;
+mod retention_level;
 mod row_level;
 mod rows;
 mod sample;
@@ -63,7 +64,7 @@ fn main() {
         Some("compare") => {
             let count = words.get(2).map_or(1_000_000, |n| n.parse().expect("a count"));
             let word = words.get(3).map_or("", String::as_str);
-            let levels: [(&str, fn(&mut Tally, u64), u64); 7] = [
+            let levels: [(&str, fn(&mut Tally, u64), u64); 8] = [
                 ("leaves", leaves::compare, 1),
                 ("apexes", rows::compare, 1),
                 ("records", records::compare, 10),
@@ -71,6 +72,7 @@ fn main() {
                 ("grids", grid_level::compare, 10),
                 ("stitching", stitch_level::compare, 4),
                 ("frames", frames_level::compare, 4),
+                ("retention", retention_level::compare, 4),
             ];
             let mut tally = Tally { compared: 0, differ: 0 };
             for (name, compare, fewer) in levels {

@@ -86,7 +86,7 @@ impl Call {
 }
 
 /// The Rust's peak of a record.
-fn peak(w: &[u32]) -> ImPeak1D {
+pub fn peak(w: &[u32]) -> ImPeak1D {
     let has = |bit: u32| w[8] & bit != 0;
     let float = |k: usize| f32::from_bits(w[k]);
     ImPeak1D {

@@ -4,11 +4,16 @@
 compile_error!("the C entry takes little-endian words");
 
 mod frames;
+mod retention;
 mod stitching;
 
 pub use frames::{
     build_frame_bin_view_into, build_im_marginal_into, build_rt_marginal_into, rt_trace_for_im_peak_by_bounds_into,
     rt_trace_for_im_peak_into, rt_traces_for_im_peaks_by_bounds_into, Block, Frame, FrameIndex, FrameRoom, FrameScratch, Index,
+};
+pub use retention::{
+    expand_window, expand_window_into, fallback_rt_peak, fallback_rt_peak_into, find_rt_peaks_into, robust_noise_mad, RtExpandParams,
+    RtPeak, RtSearch, RtTraceCtx, RtWindow, ThresholdMode, LOCAL_WORDS, RT_WORDS, WINDOW_WORDS,
 };
 pub use stitching::{stitch, stitch_into, Scratch, StitchParams};
 
