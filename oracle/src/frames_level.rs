@@ -382,11 +382,11 @@ fn index_numbers(i: &FrameIndex) -> [bool; 5] {
     [lengths, sizes, readings, scans, form]
 }
 
-fn sound_step(s: &TofScale) -> bool {
+pub fn sound_step(s: &TofScale) -> bool {
     (1..=65_536).contains(&s.tof_step)
 }
 
-fn sound_ends(s: &TofScale) -> bool {
+pub fn sound_ends(s: &TofScale) -> bool {
     s.tof_min.max(s.tof_max) <= HIGHEST
 }
 
@@ -521,7 +521,7 @@ fn by_bounds(frames: &[FrameBinView], s: &crate::cluster::utility::TofScale, tof
 }
 
 /// The numbers of an index; where its lengths do not agree, or starts fall or pass the bins, its form cannot be asked further.
-fn index_numbers_or_lengths(i: &FrameIndex) -> [bool; 5] {
+pub fn index_numbers_or_lengths(i: &FrameIndex) -> [bool; 5] {
     if i.starts.is_empty() {
         return [true; 5];
     }
@@ -701,7 +701,7 @@ pub fn spoil_sums(r: &mut Rng, c: &mut Sums) {
     }
 }
 
-fn spoil_scale(r: &mut Rng, s: &mut TofScale) {
+pub fn spoil_scale(r: &mut Rng, s: &mut TofScale) {
     match r.below(4) {
         0 => s.tof_step = r.pick(&[0, 65_536, 65_537, u32::MAX, s.tof_step + 1]),
         1 => s.tof_min = r.pick(&[s.tof_min + 1, HIGHEST, HIGHEST + 1, u32::MAX, 0]),

@@ -6,6 +6,7 @@
 //! `oracle sample stitching [SEED TIMES]` prints those of `replay_stitching`, `oracle sample frames [SEED TIMES]` those of `replay_frames`.
 //! `oracle bench [WORD]` times both sides and prints ratios, of the lines with that word in their name.
 mod bench;
+mod expand_level;
 mod frames_bench;
 mod frames_level;
 mod frames_sample;
@@ -65,7 +66,7 @@ fn main() {
         Some("compare") => {
             let count = words.get(2).map_or(1_000_000, |n| n.parse().expect("a count"));
             let word = words.get(3).map_or("", String::as_str);
-            let levels: [(&str, fn(&mut Tally, u64), u64); 8] = [
+            let levels: [(&str, fn(&mut Tally, u64), u64); 9] = [
                 ("leaves", leaves::compare, 1),
                 ("apexes", rows::compare, 1),
                 ("records", records::compare, 10),
@@ -74,6 +75,7 @@ fn main() {
                 ("stitching", stitch_level::compare, 4),
                 ("frames", frames_level::compare, 4),
                 ("retention", retention_level::compare, 4),
+                ("expansion", expand_level::compare, 4),
             ];
             let mut tally = Tally { compared: 0, differ: 0 };
             for (name, compare, fewer) in levels {
