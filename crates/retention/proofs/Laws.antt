@@ -20,7 +20,8 @@ use Rattle.rtrecord.specs.declared.RtLocalPeak.{RtLocalPeak}
 use Rattle.rtparams.specs.declared.ThresholdMode.{ThresholdMode}
 use Rattle.rtapex.specs.InTime.{localPeakOf}
 use Rattle.rtsearch.specs.Retention.{listedApexes, rtPeaks}
-use Rattle.rtsearch.specs.Steps.{indexAt, RtFound, RtSearchable}
+use Rattle.rtplaces.specs.Places.{indexAt}
+use Rattle.rtsearch.specs.Steps.{RtFound, RtSearchable}
 use Rattle.retention.specs.Trace.{peakWords, RtCall, callOf, sameLengths, soundReadings, rtNumber}
 use Rattle.retention.specs.Steps.{peaksAt, Writable, Checked}
 use Rattle.retention.proofs.TraceLaws.{none-for}

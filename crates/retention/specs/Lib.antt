@@ -2,3 +2,4 @@
 pub mod Trace
 pub mod TraceLaws
 pub mod Steps
+pub mod Cases

@@ -11,7 +11,8 @@ use Rattle.params.specs.Params.{mostPeaks}
 use Rattle.rtrecord.specs.RtRecord.{localSize}
 use Rattle.rtrecord.specs.declared.RtLocalPeak.{RtLocalPeak}
 use Rattle.rtapex.specs.InTime.{localPeakOf}
-use Rattle.rtsearch.specs.Steps.{indexAt, Stands}
+use Rattle.rtplaces.specs.Places.{indexAt}
+use Rattle.rtsearch.specs.Steps.{Stands}
 
 -- the peaks at some places of what was found
 abbrev pub peaksAt : List Float → List Float → List Float → List ℕ → List ℕ → List RtLocalPeak

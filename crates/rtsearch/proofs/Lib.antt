@@ -1,4 +1,3 @@
 -- What the proofs of functions cite.
-pub mod Laws
 pub mod Orders
 pub mod Listed

@@ -35,10 +35,12 @@ use Rattle.chosen.proofs.Places.{map-passing, map-chosen, map-ordered}
 use Rattle.rtapex.specs.InTime.{apexTime, secondsOf, seconds, apexArea}
 use Rattle.rtapex.specs.Steps.{Inside as Whole}
 use Rattle.rtapex.proofs.Laws.{left-is, right-is, area-is}
-use Rattle.rtsearch.specs.Retention.{asks, isWide, rtQualifying, lower, byIndex, higherFirst, later, earlierFirst, chosenApexes, traceArea, largest, bestArea, meetsShares, hasShares, listedApexes}
-use Rattle.rtsearch.specs.Steps.{indexAt, areaAt, Inside, Stands, AllStand, wide, wideAt, heightWord, timeAtPlace, byHeight, byTime, chosenPlaces, sharesAt, withShares, listedPlaces, RtFound}
+use Rattle.rtplaces.specs.Shares.{traceArea, largest, bestArea, meetsShares}
+use Rattle.rtsearch.specs.Retention.{asks, isWide, rtQualifying, lower, byIndex, higherFirst, later, earlierFirst, chosenApexes, hasShares, listedApexes}
+use Rattle.rtplaces.specs.Places.{indexAt, areaAt, Inside, wide, wideAt, heightWord, timeAtPlace, byHeight, byTime, chosenPlaces, sharesAt, withShares, listedPlaces}
+use Rattle.rtsearch.specs.Steps.{Stands, AllStand, RtFound}
 use Rattle.rtsearch.proofs.Orders.{higher-strict, first-decides}
-use Rattle.rtsearch.proofs.Laws.{largest-same, front-below, chosen-places, shares-places, chosen-places-few, shares-few, some-below, some-few}
+use Rattle.rtplaces.proofs.Laws.{largest-same, front-below, chosen-places, shares-places, chosen-places-few, shares-few, some-below, some-few}
 
 -- ---- lists of places
 

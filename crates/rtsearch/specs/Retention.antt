@@ -1,15 +1,12 @@
 -- Which apexes of a retention trace are listed, and in which order: y is the smoothed trace, z the raw one, t the times, one a
 -- frame. An apex is the index of its frame.
-use mathlib.Core.Bool.{Bool, not, _&&_}
-use mathlib.Core.List.{List, [], _∷_, map}
-use Prim.Native.Nat.{ℕ, _-_}
+use mathlib.Core.Bool.{Bool, not}
+use mathlib.Core.List.{List, map}
+use Prim.Native.Nat.{ℕ}
 use lib.Dec.{ltb}
-use lib.ListN.{length}
-use lib.Ieee.{Float, binary32, lt, le, ofBits}
-use Rattle.numeric.specs.Arith.{_⊘_, 𝟎, at}
-use Rattle.numeric.specs.Numeric.{maxF}
+use lib.Ieee.{Float, lt}
+use Rattle.numeric.specs.Arith.{at}
 use Rattle.numeric.specs.Plain.{word}
-use Rattle.area.specs.Area.{whole}
 use Rattle.params.specs.declared.ImDetectParams.{ImDetectParams}
 use Rattle.rowsearch.specs.Qualifying.{qualifying}
 use Rattle.rtrecord.specs.declared.RtLocalPeak.{RtLocalPeak}
@@ -17,10 +14,11 @@ use Rattle.rtapex.specs.InTime.{apexTime, seconds, apexArea, localPeakOf}
 use Rattle.chosen.specs.Chosen.{chosen, passing}
 use Rattle.chosen.specs.Ranking.{before, orderedBy}
 use Rattle.chosen.specs.Times.{nearInTime}
+use Rattle.rtplaces.specs.Shares.{traceArea, bestArea, meetsShares}
 
 -- ---- qualifying apexes
 
--- the floor of a row that asks for no distance between its apexes and for no width in samples
+-- what is asked of the row level: its floor, no distance between apexes and no width in samples
 abbrev pub asks : Float → ImDetectParams
 asks floor = record { «min_prom» = floor; «min_distance_scans» = 0; «min_width_scans» = 0 }
 
@@ -63,38 +61,7 @@ chosenApexes floor sep minWidth y z t = chosen (nearInTime (apexTime y t) sep) (
 
 -- ---- shares
 
--- the raw area of the trace: all its segments, the last one too
-unfoldable pub totalArea : List Float → Float
-totalArea z = whole z (length z - 1) 0 𝟎
-
--- the largest of a value and the areas of some apexes
-unfoldable pub largest : (ℕ → Float) → Float → List ℕ → Float
-largest area m [] = m
-largest area m (i ∷ is) = largest area (maxF m (area i)) is
-
--- no area is divided by less than 1e-6
-abbrev pub leastArea : Float
-leastArea = ofBits binary32 0x3586_37bd
-
--- the least shares: 0.02 of the trace, and 0.05 of the best apex
-abbrev pub leastOfTrace : Float
-leastOfTrace = ofBits binary32 0x3ca3_d70a
-
-abbrev pub leastOfBest : Float
-leastOfBest = ofBits binary32 0x3d4c_cccd
-
--- the two areas that an apex is compared with: that of the trace, and the largest of the chosen apexes cs
-unfoldable pub traceArea : List Float → Float
-traceArea z = maxF (totalArea z) leastArea
-
-unfoldable pub bestArea : (ℕ → Float) → List ℕ → Float
-bestArea area cs = maxF (largest area 𝟎 cs) leastArea
-
--- an area that meets both shares
-unfoldable pub meetsShares : Float → Float → Float → Bool
-meetsShares trace best area = le leastOfTrace (area ⊘ trace) && le leastOfBest (area ⊘ best)
-
--- an apex that meets both
+-- an apex whose area meets both; cs are the chosen ones
 abbrev pub hasShares : List Float → List Float → List ℕ → ℕ → Bool
 hasShares y z cs i = meetsShares (traceArea z) (bestArea (apexArea y z) cs) (apexArea y z i)
 
@@ -105,6 +72,6 @@ unfoldable pub listedApexes : Float → Float → Float → List Float → List 
 listedApexes floor sep minWidth y z t =
     let cs = chosenApexes floor sep minWidth y z t in orderedBy (earlierFirst y t) (passing (hasShares y z cs) cs)
 
--- Their peaks. There are none where the trace has fewer than 3 frames, or where its raw maximum does not reach the floor.
+-- Their peaks. There are none where the trace has fewer than 3 frames, or where its raw maximum does not reach the floor (rtlaws/specs/RtAccount.antt).
 unfoldable pub rtPeaks : Float → Float → Float → List Float → List Float → List Float → List RtLocalPeak
 rtPeaks floor sep minWidth y z t = map (localPeakOf y z t) (listedApexes floor sep minWidth y z t)

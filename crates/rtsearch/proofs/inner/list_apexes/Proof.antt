@@ -11,15 +11,15 @@ use lib.Ieee.{Float, nan, binary32, lt}
 use Rattle.digits.specs.Sorted.{row, upTo, sortedBy}
 use Rattle.digits.proofs.SortedLaws.{sort-length}
 use Rattle.chosen.specs.Chosen.{passing}
-use Rattle.rtsearch.specs.Steps.{wideAt, byTime, chosenPlaces, withShares, listedPlaces}
-use Rattle.rtsearch.proofs.Laws.{front-below, filled-front, some-below, some-few, chosen-places, chosen-places-few, shares-places, times-sorted}
+use Rattle.rtplaces.specs.Places.{wideAt, byTime, chosenPlaces, withShares, listedPlaces}
+use Rattle.rtplaces.proofs.Laws.{front-below, filled-front, some-below, some-few, chosen-places, chosen-places-few, shares-places, times-sorted}
 use Rattle.rtsearch.proofs.inner.list_apexes.Statement.{statement}
 use Rattle.rtsearch.proofs.inner.list_apexes.Tie as tie
 use Rattle.rtsearch.proofs.inner.list_apexes.Reads as reads
 use Rattle.rtsearch.proofs.inner.list_apexes.Lts as lts
-use Rattle.rtsearch.proofs.inner.choose_places.Reads as choose-places-reads
-use Rattle.rtsearch.proofs.inner.keep_wide.Reads as keep-wide-reads
-use Rattle.rtsearch.proofs.inner.list_places.Reads as list-places-reads
+use Rattle.rtplaces.proofs.inner.choose_places.Reads as choose-places-reads
+use Rattle.rtplaces.proofs.inner.keep_wide.Reads as keep-wide-reads
+use Rattle.rtplaces.proofs.inner.list_places.Reads as list-places-reads
 
 -- src/inner.rt:270:9
 keep-wide-requires : tie.Need-keep-wide-requires

@@ -1,1 +1,0 @@
--- Worked cases, by computation; they need not be read to know what is promised.

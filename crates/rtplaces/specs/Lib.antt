@@ -1,0 +1,3 @@
+-- The definitions that the contracts of `rtplaces` cite.
+pub mod Shares
+pub mod Places
