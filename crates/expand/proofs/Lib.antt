@@ -1,0 +1,3 @@
+-- What the proofs of `expand` cite.
+pub mod Laws
+pub mod CallLaws
