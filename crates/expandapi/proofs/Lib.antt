@@ -1,0 +1,2 @@
+-- Laws of the words that C entries of expansion answer.
+pub mod ExpandWords

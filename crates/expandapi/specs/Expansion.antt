@@ -1,0 +1,39 @@
+-- What the C entries of expansion answer: 64 times the count of retention peaks, or the number.
+use mathlib.Core.Path.{_≡_}
+use mathlib.Core.Bool.{cond}
+use mathlib.Core.List.{List}
+use Prim.Native.Nat.{ℕ}
+use lib.Dec.{eqb}
+use lib.ListN.{length}
+use Rattle.refusal.specs.Answers.{answerBy}
+use Rattle.tof.specs.declared.TofScale.{TofScale}
+use Rattle.expandmany.specs.Many.{Many, joinedTo}
+use Rattle.expand.specs.declared.ExpandAnswer.{ExpandAnswer}
+use Rattle.expand.specs.declared.ExpandAnswer.the-variants.{RtPeaks, Refused}
+use Rattle.expand.specs.ExpandCall.{Lent, peaksIn, manyNumber, ManyAnswered}
+use Rattle.entryword.specs.Word.{wordOf, itself, Told}
+
+-- a scale that is handed over as four numbers
+abbrev pub scaleOf : ℕ → ℕ → ℕ → ℕ → TofScale
+scaleOf least most step bins = record { «tof_min» = least; «tof_max» = most; «tof_step» = step; «num_bins» = bins }
+
+-- the answer with a number, or with the count of retention peaks where that is 0, and its word
+abbrev pub answerTo : ℕ → ℕ → ExpandAnswer
+answerTo number count = cond (eqb number 0) (RtPeaks count) (Refused number)
+
+abbrev pub expandWord : ℕ → ℕ → ℕ
+expandWord number count = wordOf itself (answerBy number count)
+
+-- ---- many mobility peaks
+
+abbrev pub manyCount : Many → ℕ
+manyCount m = length (joinedTo m (peaksIn m))
+
+-- The word, and what the five lists hold then: the same as `expand_many_im_peaks_along_rt` leaves in them.
+pub record ManyTold (m : Many) (was is : Lent) (counts₀ counts : List ℕ) (r : ℕ) : Type 0 where
+  pub word : r ≡ expandWord (manyNumber m was (length counts₀)) (manyCount m)
+  pub lists : ManyAnswered m was is counts₀ counts (answerTo (manyNumber m was (length counts₀)) (manyCount m))
+
+-- the word tells the number and the count: `many-told` in proofs/ExpandWords.antt
+abbrev pub ManyWordTold : Type 0
+ManyWordTold = (m : Many) (was : Lent) (counts : ℕ) → Told (manyNumber m was counts) (manyCount m) (expandWord (manyNumber m was counts) (manyCount m))

@@ -1,0 +1,2 @@
+-- The definitions that the contracts of `expandapi` cite.
+pub mod Expansion

@@ -1,0 +1,3 @@
+// Expansion, the second call, as C functions on numbers and lists.
+pub mod many;
+pub mod word;
