@@ -36,7 +36,7 @@ pub struct View {
 pub type Buffers = [Vec<u32>; 7];
 
 /// What an index has of a frame: bins, offsets, scans and readings, as bits.
-type Part = [Vec<u32>; 4];
+pub type Part = [Vec<u32>; 4];
 
 fn part(bins: &[usize], offsets: &[usize], scans: &[u32], readings: &[f32], base: usize) -> Part {
     [
@@ -105,7 +105,7 @@ impl View {
     }
 
     /// The Rust's, with the sort that keeps the order.
-    fn stable(&self) -> Part {
+    pub fn stable(&self) -> Part {
         let (s, r) = (rust_scale(&self.scale), self.rust_frame());
         let s = stable::utility::TofScale { tof_min: s.tof_min, tof_max: s.tof_max, tof_step: s.tof_step, edges: s.edges, centers: s.centers };
         let v = stable::peak::build_frame_bin_view(r, &s, self.count as usize);
@@ -246,7 +246,7 @@ pub fn sample(r: &mut Rng, n: usize, scale: TofScale, base: usize) -> View {
 }
 
 /// Makes something wrong, or brings it to its limit.
-fn spoil(r: &mut Rng, c: &mut View) {
+pub fn spoil(r: &mut Rng, c: &mut View) {
     let n = c.tofs.len();
     let at = r.below(n.max(1) as u64) as usize;
     match r.below(14) {
@@ -292,6 +292,9 @@ pub fn corners() -> Vec<(&'static str, View)> {
         ("a count of 0 sends every scan to 0", View::new(&[(0, 5, 1.0), (4, 65_535, 1.0)], steps, 0, 0)),
         ("the highest count of scans moves the highest scan", View::new(&[(0, 65_534, 1.0), (0, 65_535, 1.0)], steps, 65_535, 0)),
         ("points of a bin keep their order", View::new(&[(1, 0, 3.0), (5, 0, 1.0), (0, 0, 16777216.0), (2, 0, 1.0), (1, 0, 1.0)], steps, 10, 2)),
+        ("one point too many behind others", View::new(&[(0, 0, 1.0)], steps, 10, 16_777_216)),
+        ("a reading above 2^32 of a point that has no bin", View::new(&[(9, 0, 4294967808.0)], steps, 10, 0)),
+        ("no room for the end of the last bin", View { rooms: [1; 7], ..View::new(&[(0, 0, 1.0)], steps, 10, 0) }),
         ("the highest TOF there is", View::new(&[(4_194_303, 0, 4294967296.0), (4_194_302, 0, 0.0)], s(4_194_303, 4_194_303, 1, 1), 1, 16_777_214)),
     ]
 }
@@ -379,11 +382,11 @@ fn index_numbers(i: &FrameIndex) -> [bool; 5] {
     [lengths, sizes, readings, scans, form]
 }
 
-fn sound_step(s: &TofScale) -> bool {
+pub fn sound_step(s: &TofScale) -> bool {
     (1..=65_536).contains(&s.tof_step)
 }
 
-fn sound_ends(s: &TofScale) -> bool {
+pub fn sound_ends(s: &TofScale) -> bool {
     s.tof_min.max(s.tof_max) <= HIGHEST
 }
 
@@ -518,7 +521,7 @@ fn by_bounds(frames: &[FrameBinView], s: &crate::cluster::utility::TofScale, tof
 }
 
 /// The numbers of an index; where its lengths do not agree, or starts fall or pass the bins, its form cannot be asked further.
-fn index_numbers_or_lengths(i: &FrameIndex) -> [bool; 5] {
+pub fn index_numbers_or_lengths(i: &FrameIndex) -> [bool; 5] {
     if i.starts.is_empty() {
         return [true; 5];
     }
@@ -640,7 +643,7 @@ fn bad(r: &mut Rng, limit: u32) -> u32 {
 }
 
 /// Makes something of a call on an index wrong, or brings it to its limit.
-fn spoil_sums(r: &mut Rng, c: &mut Sums) {
+pub fn spoil_sums(r: &mut Rng, c: &mut Sums) {
     let i = &mut c.index;
     let at = |r: &mut Rng, n: usize| r.below(n.max(1) as u64) as usize;
     let (s, b, o, p) = (at(r, i.starts.len()), at(r, i.bins.len()), at(r, i.offsets.len()), at(r, i.scans.len()));
@@ -698,7 +701,7 @@ fn spoil_sums(r: &mut Rng, c: &mut Sums) {
     }
 }
 
-fn spoil_scale(r: &mut Rng, s: &mut TofScale) {
+pub fn spoil_scale(r: &mut Rng, s: &mut TofScale) {
     match r.below(4) {
         0 => s.tof_step = r.pick(&[0, 65_536, 65_537, u32::MAX, s.tof_step + 1]),
         1 => s.tof_min = r.pick(&[s.tof_min + 1, HIGHEST, HIGHEST + 1, u32::MAX, 0]),
@@ -751,7 +754,11 @@ pub fn sum_corners() -> Vec<(&'static str, Sums)> {
         ("bounds below the scale: its first bin", Sums::new(two.clone(), Asked::Bounds(s, (0, 8), 4, (0, 65_535)))),
         ("bounds above the scale: its last bin, and one past it", Sums::new(two.clone(), Asked::Bounds(s, (4_259_839, 24), 1, (0, 65_535)))),
         ("bounds in the other order", Sums::new(two.clone(), Asked::Bounds(s, (27, 23), 0, (0, 65_535)))),
-        ("two peaks", Sums::new(two, Asked::Many(s, many.to_vec(), 1))),
+        ("two peaks", Sums::new(two.clone(), Asked::Many(s, many.to_vec(), 1))),
+        ("a peak with reversed bounds", Sums::new(two.clone(), Asked::Many(s, [&many[..2], &[9, 8], &many[4..]].concat(), 1))),
+        ("a step of 0 comes before a scale that disagrees", Sums::new(two.clone(), Asked::Many(TofScale { tof_step: 0, ..s }, many.to_vec(), 1))),
+        ("a highest TOF out of range", Sums::new(two.clone(), Asked::Many(TofScale { tof_max: 4_194_304, ..s }, many.to_vec(), 1))),
+        ("a scale that disagrees", Sums::new(two, Asked::Many(TofScale { num_bins: 4, ..s }, many.to_vec(), 1))),
     ]
 }
 

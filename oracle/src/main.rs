@@ -3,11 +3,13 @@
 //! `oracle compare [N [WORD]]` compares every function on N seeded inputs (a million by default), or those of the level with that
 //! word in its name, and exits with 1 on a difference.
 //! `oracle sample [SEED TIMES]` prints the answers that the program `replay_answers` replays; those stored beside it by default.
-//! `oracle sample stitching [SEED TIMES]` prints those of `replay_stitching`.
+//! `oracle sample stitching [SEED TIMES]` prints those of `replay_stitching`, `oracle sample frames [SEED TIMES]` those of `replay_frames`.
 //! `oracle bench [WORD]` times both sides and prints ratios, of the lines with that word in their name.
 mod bench;
+mod expand_level;
 mod frames_bench;
 mod frames_level;
+mod frames_sample;
 mod grid_level;
 mod inputs;
 mod leaves;
@@ -64,7 +66,7 @@ fn main() {
         Some("compare") => {
             let count = words.get(2).map_or(1_000_000, |n| n.parse().expect("a count"));
             let word = words.get(3).map_or("", String::as_str);
-            let levels: [(&str, fn(&mut Tally, u64), u64); 8] = [
+            let levels: [(&str, fn(&mut Tally, u64), u64); 9] = [
                 ("leaves", leaves::compare, 1),
                 ("apexes", rows::compare, 1),
                 ("records", records::compare, 10),
@@ -73,6 +75,7 @@ fn main() {
                 ("stitching", stitch_level::compare, 4),
                 ("frames", frames_level::compare, 4),
                 ("retention", retention_level::compare, 4),
+                ("expansion", expand_level::compare, 4),
             ];
             let mut tally = Tally { compared: 0, differ: 0 };
             for (name, compare, fewer) in levels {
@@ -86,14 +89,17 @@ fn main() {
             }
         }
         Some("sample") => {
-            let stitching = words.get(2).is_some_and(|w| w == "stitching");
-            let given = |k: usize, other| words.get(k + stitching as usize).map_or(other, |n| n.parse().expect("a number"));
-            let print = if stitching { stitch_sample::print } else { sample::print };
+            let (named, print): (usize, fn(u64, u32)) = match words.get(2).map(String::as_str) {
+                Some("stitching") => (1, stitch_sample::print),
+                Some("frames") => (1, frames_sample::print),
+                _ => (0, sample::print),
+            };
+            let given = |k: usize, other| words.get(k + named).map_or(other, |n| n.parse().expect("a number"));
             print(given(2, 4), given(3, 1) as u32);
         }
         Some("bench") => bench::run(words.get(2).map_or("", String::as_str)),
         _ => {
-            eprintln!("usage: oracle compare [N [WORD]] | oracle sample [stitching] [SEED TIMES] | oracle bench [WORD]");
+            eprintln!("usage: oracle compare [N [WORD]] | oracle sample [stitching | frames] [SEED TIMES] | oracle bench [WORD]");
             std::process::exit(2);
         }
     }

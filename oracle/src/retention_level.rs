@@ -6,7 +6,7 @@ use crate::cluster::utility::{self, fallback_rt_peak_from_trace};
 use crate::inputs::{any, length, limit, reading, row, Rng};
 use crate::leaves::in_range;
 use crate::records::{record, sound, WORDS};
-use crate::row_level::{gaussian, most};
+use crate::row_level::most;
 use crate::stitch_level::peak;
 use crate::{bits, shapes, Tally};
 use rubzolena::{
@@ -253,7 +253,39 @@ fn frames(r: &mut Rng) -> usize {
     }
 }
 
+/// A trace of teeth, one of which has just a least share, of the trace or of the best one, or misses it by a unit in the last place.
+fn shares(r: &mut Rng) -> Vec<f32> {
+    let small = 2.0f32.powi(r.below(12) as i32) * (1 + r.below(9)) as f32;
+    let mut heights = vec![small];
+    if r.one_in(2) {
+        // its half-height area is 3/4 of its height, the trace's that of all heights
+        let rest = 36.5 * small;
+        let first = (20.0 - r.below(3) as f32 / 2.0) * small;
+        heights.extend([first, rest - first]);
+    } else {
+        heights.extend([20.0 * small, (1 + r.below(20)) as f32 * small]);
+    }
+    if r.one_in(2) {
+        let k = r.below(3) as usize;
+        heights[k] = f32::from_bits(heights[k].to_bits() + r.below(3) as u32 - 1);
+    }
+    let k = r.below(3) as usize;
+    heights.swap(0, k);
+    let mut y = vec![0.0];
+    for h in heights {
+        y.extend([h, 0.0]);
+        y.resize(y.len() + r.below(3) as usize, 0.0);
+    }
+    y.push(0.0);
+    y
+}
+
 fn sample(r: &mut Rng) -> Search {
+    if r.one_in(8) {
+        let (y, free) = (shares(r), RtSearch { min_prom: ThresholdMode::Fixed(0.0), min_sep_sec: 0.0, min_width_sec: 0.0 });
+        let times = axis(r, y.len());
+        return Search::new(y.clone(), y, times, free);
+    }
     let n = if r.one_in(4_000) { 16_384 } else { frames(r) };
     let raw = if r.one_in(2) { shapes::row(r, n) } else { row(r, n) };
     let smoothed = match r.below(4) {
@@ -556,11 +588,6 @@ pub fn window(p: &ImPeak1D, ids: &[u32], times: &[f32], e: &RtExpandParams) -> O
     let (lo, hi) = (lo.saturating_sub(pad), (hi + pad).min(n - 1));
     let dt = rust::within::effective_dt(&times[lo..=hi]);
     Some((lo, hi, (e.smooth_sigma_sec / dt).max(0.75)))
-}
-
-/// Weights as the Rust makes them of a window's sigma and its truncation; one weight where there is no window.
-pub fn weights(window: Option<(usize, usize, f32)>, truncate: f32) -> Vec<f32> {
-    window.map_or(vec![1.0], |w| gaussian(w.2, truncate))
 }
 
 fn windows(t: &mut Tally, r: &mut Rng) {

@@ -303,7 +303,7 @@ fn same_smoothing(t: &mut Tally, r: &mut Rng) {
 }
 
 /// What the Rust does with its weights, for weights that it would not make.
-fn weighted_means(v: &[f32], weights: &[f32]) -> Vec<f32> {
+pub fn weighted_means(v: &[f32], weights: &[f32]) -> Vec<f32> {
     let sum = weights.iter().fold(0.0f32, |a, w| a + w);
     let radius = weights.len() / 2;
     let mean = |i: usize| {

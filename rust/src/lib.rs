@@ -3,10 +3,12 @@
 #[cfg(not(target_endian = "little"))]
 compile_error!("the C entry takes little-endian words");
 
+mod expansion;
 mod frames;
 mod retention;
 mod stitching;
 
+pub use expansion::{expand_im_peak_into, expand_im_peaks, expand_many_im_peaks_into, most_rt_peaks, ExpandScratch, Run};
 pub use frames::{
     build_frame_bin_view_into, build_im_marginal_into, build_rt_marginal_into, rt_trace_for_im_peak_by_bounds_into,
     rt_trace_for_im_peak_into, rt_traces_for_im_peaks_by_bounds_into, Block, Frame, FrameIndex, FrameRoom, FrameScratch, Index,

@@ -1,12 +1,17 @@
--- One step of each loop of `choose`.
+-- One step of each loop of `choose`, and nearness without a branch.
 use mathlib.Core.Path.{_≡_, refl, sym, _∙_, ap, subst}
 use mathlib.Core.Bool.{Bool, true, false, cond}
 use mathlib.Core.List.{List, [], _∷_, _++_, append-assoc}
-use Prim.Native.Nat.{ℕ, suc, _≤_, _<_, _+_}
+use Prim.Native.Nat.{ℕ, zero, suc, _≤_, _<_, _+_, _*_}
 use native.Mathlib.Omega.{arith}
 use native.Mathlib.Numerals.{add-one}
-use borrow.Author.Tests.{eqb-true, eqb-false}
-use lib.Dec.{eqb}
+use native.Mathlib.Nat.{zero-add, zero-mul, mul-pos}
+use borrow.Author.Tests.{eqb-true, eqb-false, ltb-false, le-ltb}
+use lib.Dec.{eqb, ltb}
+use lib.IntN.{ℤ}
+use lib.Ieee.{Float, nan, inf, fin, lt, neg, isNan, up, down}
+use lib.Ieee.Fits.{down-pos}
+use Rattle.numeric.specs.Numeric.{absF, maxF}
 use lib.ListN.{length, getD, drop, take, set, length-append, length-take, drop-of-length-le}
 use lib.Seq.{drop-cons, take-at, take-all, set-at, getD-take, getD-set-same, getD-set-other}
 use Rattle.chosen.specs.Chosen.{nearAny, choose, chooseAll, chosen}
@@ -81,3 +86,35 @@ below-set m n v out l h f b k = go (eqb b n) refl
     go : (e : Bool) → eqb b n ≡ e → getD (set out n v) b 0 < m
     go true e = subst (λ (i : ℕ). getD (set out n v) i 0 < m) (sym (eqb-true b n e)) (subst (λ (x : ℕ). x < m) (sym (getD-set-same out n v 0 l)) h)
     go false e = subst (λ (x : ℕ). x < m) (sym (getD-set-other out n b v 0 (eqb-false b n e))) (f b (let ne : b ≡ n → ⊥ = eqb-false b n e in omega arith))
+
+-- ---- a distance is the higher of the difference and its opposite; only which zero it is may differ
+
+no-size : (m : ℕ) (e k : ℤ) → m * up e * down e + m * up e * down e ≤ 0 → m * up e * down k ≡ 0
+no-size m e k h = go (m * up e) refl
+  where
+    go : (a : ℕ) → m * up e ≡ a → m * up e * down k ≡ 0
+    go zero q = rw q (zero-mul (down k))
+    go (suc a) q =
+        let p : 0 < suc a * down e = mul-pos {m = suc a} (omega arith) (down-pos e) in
+        let r : suc a * down e + suc a * down e ≤ 0 = rw q at h in
+        absurd (omega arith)
+
+-- a minus with no size is below whatever a plus is
+either-zero : (m : ℕ) (e : ℤ) (sep : Float) → m * up e * down e + m * up e * down e ≤ 0 → lt (fin false m e) sep ≡ lt (fin true m e) sep
+unfolding lt
+either-zero m e nan h = refl
+either-zero m e (inf t) h = refl
+either-zero m e (fin false n k) h = let z = no-size m e k h in rw (z, zero-add)
+either-zero m e (fin true n k) h = let z = no-size m e k h in rw z (sym (le-ltb (n * up k * down e) 0 (omega arith)))
+
+pub higher-side : (d sep : Float) → lt (absF d) sep ≡ lt (maxF d (neg d)) sep
+unfolding lt neg absF maxF isNan
+higher-side nan sep = refl
+higher-side (inf true) sep = refl
+higher-side (inf false) sep = refl
+higher-side (fin false m e) sep = refl
+higher-side (fin true m e) sep = go (ltb 0 (m * up e * down e + m * up e * down e)) refl
+  where
+    go : (b : Bool) → ltb 0 (m * up e * down e + m * up e * down e) ≡ b → lt (fin false m e) sep ≡ lt (cond b (fin false m e) (fin true m e)) sep
+    go true h = refl
+    go false h = either-zero m e sep (ltb-false 0 (m * up e * down e + m * up e * down e) h)

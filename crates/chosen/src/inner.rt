@@ -2,7 +2,10 @@
 ghost use mathlib.Core.Path.{_≡_};
 ghost use mathlib.Core.List.{_++_};
 ghost use Prim.Native.Nat.{ℕ, _≤_, _<_};
+ghost use lib.Ieee.{lt};
 ghost use lib.ListN.{length, drop, getD};
+ghost use Rattle.numeric.specs.Arith.{_⊖_};
+ghost use Rattle.numeric.specs.Numeric.{absF};
 ghost use Rattle.chosen.specs.Chosen.{chosen};
 ghost use Rattle.chosen.specs.Times.{nearInTime, timeOf};
 
@@ -12,6 +15,14 @@ fn time_of(times: &[u32], p: u32) -> f32
     ensures { λ r. ⌜ r ≡ timeOf (now (times .entry)) p ⌝ }
 {
     numeric::float_of(times[p as usize])
+}
+
+// Whether two times differ by less than `sep`. The higher of the difference and its opposite is taken without a branch on the sign.
+fn is_near(a: f32, b: f32, sep: f32) -> bool
+    ensures { λ r. ⌜ r ≡ lt (absF (a ⊖ b)) sep ⌝ }
+{
+    let d = a - b;
+    numeric::max(d, -d) < sep
 }
 
 // Chooses, in their order, the apexes that lie at least `sep` from each one chosen before: an apex is a place of the table of
@@ -27,7 +38,7 @@ pub fn choose(order: &[u32], times: &[u32], sep: f32, out: &mut [u32]) -> usize
         let time = time_of(times, p);
         for b in 0..n {
             let q = out[b];
-            if numeric::abs(time - time_of(times, q)) < sep {
+            if is_near(time, time_of(times, q), sep) {
                 continue 'outer;
             }
         }

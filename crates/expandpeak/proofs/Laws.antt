@@ -20,7 +20,8 @@ use Rattle.rtplace.specs.Placed.{placed}
 use Rattle.rtapex.specs.InTime.{localPeakOf}
 use Rattle.rtparams.specs.declared.RtExpandParams.{RtExpandParams}
 use Rattle.rtsearch.specs.Retention.{listedApexes}
-use Rattle.rtsearch.specs.Steps.{indexAt, RtFound}
+use Rattle.rtplaces.specs.Places.{indexAt}
+use Rattle.rtsearch.specs.Steps.{RtFound}
 use Rattle.expandtrace.specs.declared.inner.Way.the-variants.{AllZero, TooShort, Smoothed}
 use Rattle.expandtrace.specs.Trace.{wayOf}
 use Rattle.expandtrace.specs.FallbackPeaks.{placedAll, fallbackPeaks, peakWords, Put}

@@ -8,7 +8,7 @@ ghost use mathlib.Core.List.{_++_, map};
 ghost use Prim.Native.Nat.{ℕ, _≤_, _<_, _+_, _-_, _*_};
 ghost use lib.ListN.{length, getD, take, drop};
 ghost use Rattle.smoothing.specs.Smoothing.{smoothed};
-ghost use Rattle.rtsearch.specs.Steps.{indexAt};
+ghost use Rattle.rtplaces.specs.Places.{indexAt};
 ghost use Rattle.expandtrace.specs.FallbackPeaks.{Put};
 ghost use Rattle.expandpeak.specs.Steps.{apexesOf, placedApexes, followed, Listable, Searchable, Smoothable, Followable};
 

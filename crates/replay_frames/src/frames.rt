@@ -10,6 +10,7 @@ use super::lines::has;
 use super::lines::has_floats;
 use super::lines::kept;
 use super::lines::plain;
+use super::lines::plus;
 use super::lines::word;
 
 pub(crate) fn agrees(w: &[u32], f: &[f32]) -> bool {
@@ -41,18 +42,18 @@ pub(crate) fn agrees(w: &[u32], f: &[f32]) -> bool {
         front(&mut order, word(w, 15) as usize),
         front(&mut spare, word(w, 16) as usize),
     );
-    let g = after(w, c + 1, c + 4);
-    let h = after(w, c + 2, g);
-    let i = after(w, c + 3, h);
-    let j = after(w, c + 3, i);
+    let g = after(w, plus(c, 1), plus(c, 4));
+    let h = after(w, plus(c, 2), g);
+    let i = after(w, plus(c, 3), h);
+    let j = after(w, plus(c, 3), i);
     let used = if word(w, c) == 0 {
         word(w, 1) as usize
     } else {
         0
     };
-    (r == (word(w, c + 1) as u64) * 64 + word(w, c) as u64)
+    (r == (word(w, plus(c, 1)) as u64) * 64 + word(w, c) as u64)
         & (j == w.len())
-        & has(&bins, plain(w, c + 4, g))
+        & has(&bins, plain(w, plus(c, 4), g))
         & has(&offsets, plain(w, g, h))
         & has(&scans, plain(w, h, i))
         & has_floats(&readings, plain(w, i, j))

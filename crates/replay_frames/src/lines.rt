@@ -24,6 +24,16 @@ pub(crate) fn after(words: &[u32], i: usize, at: usize) -> usize
     2048
 }
 
+// A place a few words on.
+pub(crate) fn plus(at: usize, few: usize) -> usize {
+    if at <= 2048 {
+        if few <= 4 {
+            return at + few;
+        }
+    }
+    at
+}
+
 // The list between two places, empty where there is none.
 pub(crate) fn plain(list: &[u32], from: usize, to: usize) -> &[u32] {
     if to <= list.len() {

@@ -11,6 +11,7 @@ use super::lines::front_floats;
 use super::lines::has_floats;
 use super::lines::kept;
 use super::lines::plain;
+use super::lines::plus;
 use super::lines::word;
 
 // The word of the C entry, for the lists of a line.
@@ -127,14 +128,14 @@ pub(crate) fn agrees(w: &[u32], f: &[f32]) -> bool {
         front_floats(&mut out, word(w, 6) as usize),
         front(&mut windows, word(w, 7) as usize),
     );
-    let h = after(w, g + 2, g + 3);
+    let h = after(w, plus(g, 2), plus(g, 3));
     let used = if word(w, g) == 0 {
-        4 * (word(w, g + 1) as usize)
+        4 * (word(w, plus(g, 1)) as usize)
     } else {
         0
     };
-    (r == (word(w, g + 1) as u64) * 64 + word(w, g) as u64)
+    (r == (word(w, plus(g, 1)) as u64) * 64 + word(w, g) as u64)
         & (h == w.len())
-        & has_floats(&out, plain(w, g + 3, h))
+        & has_floats(&out, plain(w, plus(g, 3), h))
         & kept(&windows, used)
 }

@@ -131,7 +131,7 @@ fn list_in_16384(
     )
 }
 
-// The same for any trace of at most 16,384 frames, with the first n words of `scratch` for the order, n being the count of frames.
+// The same for any trace of at most 16,384 frames. The order is scratch too.
 pub fn find_rt_peaks(
     y: &[f32],
     z: &[f32],

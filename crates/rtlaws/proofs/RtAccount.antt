@@ -13,7 +13,7 @@ use lib.Seq.{getD-append-add}
 use lib.Ieee.{Float, binary32, lt}
 use Rattle.refusal.proofs.Bools.{both, clash}
 use Rattle.numeric.specs.Arith.{at, 𝟎}
-use Rattle.apex.specs.Apex.{candidates, prominence}
+use Rattle.apex.specs.Apex.{candidatesTo, candidates, prominence}
 use Rattle.numeric.specs.Plain.{word}
 use Rattle.numeric.proofs.Order.{abs-sub, not-lt}
 use Rattle.rowsearch.specs.Account.{_∈_, All, Ascending, NoNan}
@@ -29,9 +29,9 @@ use Rattle.rtrecord.specs.declared.RtLocalPeak.{RtLocalPeak}
 use Rattle.rtapex.specs.InTime.{apexTime, localPeakOf}
 use Rattle.rtsearch.specs.Retention.{asks, isWide, rtQualifying, lower, byIndex, higherFirst, later, earlierFirst, chosenApexes, hasShares, listedApexes, rtPeaks}
 use Rattle.rtsearch.proofs.Orders.{index-strict, larger-strict, earlier-strict}
-use Rattle.rtsearch.proofs.Listed.{rt-no-nan}
+use Rattle.rtsearch.proofs.Listed.{rt-no-nan, none-listed, low-none}
 use Rattle.retention.specs.Trace.{peakWords}
-use Rattle.rtlaws.specs.RtAccount.{Qualifies, QualifyingAre, noLower, RtAccounted, AllRtAccounted, PeaksBear, WordsBear}
+use Rattle.rtlaws.specs.RtAccount.{Qualifies, QualifyingAre, NoneInFew, NoneBelow, noLower, RtAccounted, AllRtAccounted, PeaksBear, WordsBear}
 
 -- ---- what qualifies
 
@@ -65,6 +65,28 @@ qualifying-are floor minWidth y z t i = (there-is, here-is)
     here-is q =
         passing-has (isWide minWidth y t) (qualifying (asks floor) y z) i
         (qualifying-complete (asks floor) y z i (q .raw-reaches) (q .candidate) (prominent-only floor y i ∙ q .prominent)) (q .wide)
+
+none-listed-none : (floor sep minWidth : Float) (y z t : List Float) → qualifying (asks floor) y z ≡ [] → rtPeaks floor sep minWidth y z t ≡ []
+unfolding rtPeaks
+none-listed-none floor sep minWidth y z t e = ap (map (localPeakOf y z t)) (none-listed floor sep minWidth y z t e)
+
+few-candidates : (y : List Float) → length y < 3 → candidates y ≡ []
+unfolding candidatesTo
+few-candidates y h = let e : length y - 2 ≡ 0 = omega arith in rw e
+
+few-qualify : (floor : Float) (y z : List Float) → length y < 3 → qualifying (asks floor) y z ≡ []
+unfolding qualifying thatQualify
+few-qualify floor y z h = rw (few-candidates y h) (go (reaches floor (highestReading 𝟎 z)))
+  where
+    go : (b : Bool) → cond {A = List ℕ} b [] [] ≡ []
+    go true = refl
+    go false = refl
+
+pub none-in-few : NoneInFew
+none-in-few floor sep minWidth y z t h = none-listed-none floor sep minWidth y z t (few-qualify floor y z h)
+
+pub none-below : NoneBelow
+none-below floor sep minWidth y z t h = none-listed-none floor sep minWidth y z t (low-none floor y z h)
 
 -- ---- the account
 

@@ -2,7 +2,7 @@
 -- them, nor of the floor, the least separation and the least width.
 use mathlib.Core.Path.{_≡_}
 use mathlib.Core.Bool.{Bool, true, false}
-use mathlib.Core.List.{List, map, _++_}
+use mathlib.Core.List.{List, [], map, _++_}
 use mathlib.Core.Logic.{_⊎_, _↔_, _≢_}
 use Prim.Native.Nat.{ℕ, _-_, _≤_, _<_}
 use lib.ListN.{length, getD}
@@ -34,6 +34,13 @@ pub record Qualifies (floor minWidth : Float) (y z t : List Float) (i : ℕ) : T
 -- these apexes, and no others, are the qualifying ones: `qualifying-are` in proofs/RtAccount.antt
 abbrev pub QualifyingAre : Type 0
 QualifyingAre = (floor minWidth : Float) (y z t : List Float) (i : ℕ) → (i ∈ rtQualifying floor minWidth y z t) ↔ Qualifies floor minWidth y z t i
+
+-- there are none in fewer than 3 frames, nor where the raw maximum does not reach the floor: `none-in-few`, `none-below`
+abbrev pub NoneInFew : Type 0
+NoneInFew = (floor sep minWidth : Float) (y z t : List Float) → length y < 3 → rtPeaks floor sep minWidth y z t ≡ []
+
+abbrev pub NoneBelow : Type 0
+NoneBelow = (floor sep minWidth : Float) (y z t : List Float) → reaches floor (highestReading 𝟎 z) ≡ false → rtPeaks floor sep minWidth y z t ≡ []
 
 -- ---- the account
 

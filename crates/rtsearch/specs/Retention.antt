@@ -18,7 +18,7 @@ use Rattle.rtplaces.specs.Shares.{traceArea, bestArea, meetsShares}
 
 -- ---- qualifying apexes
 
--- the floor of a row that asks for no distance between its apexes and for no width in samples
+-- what is asked of the row level: its floor, no distance between apexes and no width in samples
 abbrev pub asks : Float → ImDetectParams
 asks floor = record { «min_prom» = floor; «min_distance_scans» = 0; «min_width_scans» = 0 }
 
@@ -61,7 +61,7 @@ chosenApexes floor sep minWidth y z t = chosen (nearInTime (apexTime y t) sep) (
 
 -- ---- shares
 
--- an apex that meets both
+-- an apex whose area meets both; cs are the chosen ones
 abbrev pub hasShares : List Float → List Float → List ℕ → ℕ → Bool
 hasShares y z cs i = meetsShares (traceArea z) (bestArea (apexArea y z) cs) (apexArea y z i)
 
@@ -72,6 +72,6 @@ unfoldable pub listedApexes : Float → Float → Float → List Float → List 
 listedApexes floor sep minWidth y z t =
     let cs = chosenApexes floor sep minWidth y z t in orderedBy (earlierFirst y t) (passing (hasShares y z cs) cs)
 
--- Their peaks. There are none where the trace has fewer than 3 frames, or where its raw maximum does not reach the floor.
+-- Their peaks. There are none where the trace has fewer than 3 frames, or where its raw maximum does not reach the floor (rtlaws/specs/RtAccount.antt).
 unfoldable pub rtPeaks : Float → Float → Float → List Float → List Float → List Float → List RtLocalPeak
 rtPeaks floor sep minWidth y z t = map (localPeakOf y z t) (listedApexes floor sep minWidth y z t)

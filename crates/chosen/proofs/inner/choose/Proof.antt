@@ -9,8 +9,6 @@ use lib.Dec.{T, ltb, leb, eqb}
 use lib.ListN.{length, getD, drop, take, set}
 use lib.Ieee.{Float, nan, binary32, lt}
 use lib.ListN.{length-set}
-use Rattle.numeric.specs.Arith.{_⊖_}
-use Rattle.numeric.specs.Numeric.{absF}
 use Rattle.chosen.specs.Chosen.{nearAny, chosen}
 use Rattle.chosen.specs.Times.{nearInTime, timeOf}
 use Rattle.chosen.proofs.Laws.{Upto, near-step, near-hit, near-none, upto-none, upto-skip, upto-take, upto-all, below-set}
@@ -19,7 +17,7 @@ use Rattle.chosen.proofs.inner.choose.Tie as tie
 use Rattle.chosen.proofs.inner.choose.Reads as reads
 use Rattle.chosen.proofs.inner.choose.Lts as lts
 use Rattle.chosen.proofs.inner.time_of.Reads as time-of-reads
-use Rattle.numeric.proofs.abs.Reads as abs-reads
+use Rattle.chosen.proofs.inner.is_near.Reads as is-near-reads
 
 -- two places are near
 abbrev near : List ℕ → Float → ℕ → ℕ → Bool
@@ -78,8 +76,8 @@ time-of-requires-2 c κs = let l = c .before .before in
     o .outer .inv .5 (l .loop .b) (omega arith)
 
 -- src/inner.rt:30:16
-abs-requires : tie.Need-abs-requires Inv-loop μ-loop Inv-outer μ-outer
-abs-requires c κs = search needs
+is-near-requires : tie.Need-is-near-requires Inv-loop μ-loop Inv-outer μ-outer
+is-near-requires c κs = search needs
 
 -- src/inner.rt:31:17
 add-a : tie.Need-add-a Inv-loop μ-loop Inv-outer μ-outer
@@ -104,9 +102,9 @@ outer-again c = let l = c .before .before .before .before .before in
     let p = getD order a 0 in
     let b = l .loop .b in
     let inv = o .outer .inv in
-    let e : c .before .abs .result ≡ absF (timeOf times p ⊖ timeOf times (getD out b 0)) =
-    rw (c .before .abs .ensures, c .before .before .time-of2 .ensures, l .before .time-of .ensures) in
-    let near-it : near times sep p (getD out b 0) ≡ true = ap (λ (x : Float). lt x sep) (sym e) ∙ c .if1 .taken in
+    let e : c .before .is-near .result ≡ near times sep p (getD out b 0) =
+    rw (c .before .is-near .ensures, c .before .before .time-of2 .ensures, l .before .time-of .ensures) in
+    let near-it : near times sep p (getD out b 0) ≡ true = sym e ∙ c .if1 .taken in
     let all : nearAny (near times sep) p (take n out) ≡ true = l .loop .inv .2 ∙ near-hit (near times sep) p b n out (omega arith) (omega arith) near-it in
     rw (l .loop .inv .0) (refl, omega arith, omega arith, inv .3, upto-skip (near times sep) order d out a n (inv .4) (omega arith) all, inv .5)
 
@@ -133,9 +131,9 @@ loop-again c = let l = c .before .before .before .before .before in
     let p = getD order a 0 in
     let b = l .loop .b in
     let inv = o .outer .inv in
-    let e : c .before .abs .result ≡ absF (timeOf times p ⊖ timeOf times (getD out b 0)) =
-    rw (c .before .abs .ensures, c .before .before .time-of2 .ensures, l .before .time-of .ensures) in
-    let far : near times sep p (getD out b 0) ≡ false = ap (λ (x : Float). lt x sep) (sym e) ∙ c .if1 .left in
+    let e : c .before .is-near .result ≡ near times sep p (getD out b 0) =
+    rw (c .before .is-near .ensures, c .before .before .time-of2 .ensures, l .before .time-of .ensures) in
+    let far : near times sep p (getD out b 0) ≡ false = sym e ∙ c .if1 .left in
     (l .loop .inv .0, omega arith, l .loop .inv .2 ∙ near-step (near times sep) p b n out (omega arith) (omega arith) far)
 
 -- src/inner.rt:34:9
@@ -203,7 +201,7 @@ choose-spec =
     mul-q
     slice-read-q
     time-of-requires-2
-    abs-requires
+    is-near-requires
     add-a
     outer-less
     outer-again

@@ -8,7 +8,7 @@ use Rattle.rtrecord.specs.declared.RtLocalPeak.{RtLocalPeak}
 use Rattle.rtrecord.proofs.RoundTrip.{rt-same-length}
 use Rattle.rtplace.specs.Placed.{placed}
 use Rattle.rtapex.specs.InTime.{localPeakOf}
-use Rattle.rtsearch.specs.Steps.{indexAt}
+use Rattle.rtplaces.specs.Places.{indexAt}
 use Rattle.expandtrace.specs.FallbackPeaks.{Put}
 use Rattle.expandpeak.specs.Steps.{placedApexes}
 use Rattle.expandpeak.proofs.Laws.{local-index, none-listed, one-listed}

@@ -1,0 +1,3 @@
+-- The definitions that the contracts of `expandmany` cite.
+pub mod Many
+pub mod Steps

@@ -1,0 +1,2 @@
+-- What the proofs of `expandnumbers` cite.
+pub mod Laws

@@ -1,0 +1,2 @@
+-- The definitions that the contracts of `expandnumbers` cite.
+pub mod ExpandNumber
