@@ -73,7 +73,7 @@ fn main() {
                 ("rows", row_level::compare, 2),
                 ("grids", grid_level::compare, 10),
                 ("stitching", stitch_level::compare, 4),
-                ("frames", frames_level::compare, 4),
+                ("frames", frames_level::compare, 2),
                 ("retention", retention_level::compare, 4),
                 ("expansion", expand_level::compare, 4),
             ];
