@@ -41,7 +41,7 @@ use Rattle.expand.specs.ExpandCall.{Lent, framesOf, peaksIn, manyAsks, m
 use Rattle.expand.specs.Steps.{Lendable, manyNumberBy}
 
 -- ---- where the number is 0, a check with a number does not apply
-ascending : (s : Seen) (a : Asked) → ascendingFrom 0 (expandChecks s a) ≡ true
+pub ascending : (s : Seen) (a : Asked) → ascendingFrom 0 (expandChecks s a) ≡ true
 unfolding ascendingFrom
 ascending s a = refl
 

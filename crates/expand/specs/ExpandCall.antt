@@ -10,7 +10,6 @@ use lib.Ieee.{Float}
 use Rattle.refusal.specs.Refusal.{firstOf}
 use Rattle.refusal.specs.Answers.{Says, answerBy}
 use Rattle.limits.specs.Limits.{maxReading, maxList}
-use Rattle.smoothing.specs.Smoothing.{soundWeights}
 use Rattle.record.specs.Record.{size, peakAt, allSound}
 use Rattle.tof.specs.Tof.{soundEnds, agreeing}
 use Rattle.frameindex.specs.FrameIndex.{seenIn}
@@ -20,7 +19,7 @@ use Rattle.rtrecord.specs.declared.RtPeak1D.{RtPeak1D}
 use Rattle.expandtrace.specs.FallbackPeaks.{peakWords}
 use Rattle.expandpeak.specs.Expanded.{Run, expanded}
 use Rattle.expandone.specs.Steps.{most}
-use Rattle.expandmany.specs.Many.{Many, joinedTo, countsTo}
+use Rattle.expandmany.specs.Many.{Many, manyOf, joinedTo, countsTo}
 use Rattle.expandnumbers.specs.declared.inner.Asked.{Asked}
 use Rattle.expandnumbers.specs.ExpandNumber.{expandChecks, pairedAxes, sumsTo, allWeights, soundValues, risingAxes, enoughRoom, enoughScratch}
 use Rattle.expand.specs.declared.ExpandAnswer.{ExpandAnswer}
@@ -93,3 +92,28 @@ pub record ManyAnswered (m : Many) (was is : Lent) (counts₀ counts : List ℕ)
   pub answered : expandSays answer ≡ answerBy (manyNumber m was (length counts₀)) (length (joinedTo m (peaksIn m)))
   pub accepted : manyNumber m was (length counts₀) ≡ 0 → ManyWritten m was is counts₀ counts
   pub refused : (manyNumber m was (length counts₀) ≡ 0 → ⊥) → (is ≡ was) × (counts ≡ counts₀)
+
+-- ---- one mobility peak
+
+-- the call for a list of that peak alone
+abbrev pub alone : Run → RtExpandParams → List ℕ → List Float → ℕ → Many
+alone run e peak ws first = manyOf run e peak ws (length ws ∷ []) first
+
+-- Its number. 1: not one record. All others as for many peaks.
+abbrev pub oneNumber : Run → RtExpandParams → List ℕ → List Float → ℕ → Lent → ℕ
+oneNumber run e peak ws first lent = manyNumber (alone run e peak ws first) lent 1
+
+-- the retention peaks of the peak whose words are handed in
+abbrev pub peaksOf : Run → RtExpandParams → List ℕ → List Float → ℕ → List RtPeak1D
+peaksOf run e peak ws first = expanded run e ws (peakAt peak 0) first
+
+-- What the lists hold after the call was accepted.
+pub record OneWritten (run : Run) (ps : List RtPeak1D) (was is : Lent) : Type 0 where
+  pub words : is .out ≡ peakWords ps ++ drop (length ps * rtSize) (was .out)
+  pub past : PastKept (framesOf run) was is
+
+-- The answer, and what the lists hold then.
+pub record OneAnswered (run : Run) (e : RtExpandParams) (peak : List ℕ) (ws : List Float) (first : ℕ) (was is : Lent) (answer : ExpandAnswer) : Type 0 where
+  pub answered : expandSays answer ≡ answerBy (oneNumber run e peak ws first was) (length (peaksOf run e peak ws first))
+  pub accepted : oneNumber run e peak ws first was ≡ 0 → OneWritten run (peaksOf run e peak ws first) was is
+  pub refused : (oneNumber run e peak ws first was ≡ 0 → ⊥) → is ≡ was

@@ -8,11 +8,13 @@ use record::ImPeak1D;
 use record::PeakId;
 use rtparams::RtExpandParams;
 use tof::TofScale;
+ghost use mathlib.Core.Path.{_≡_};
+ghost use Prim.Native.Nat.{min};
 ghost use lib.ListN.{length};
 ghost use Rattle.framesums.specs.Steps.{indexOf};
 ghost use Rattle.expandpeak.specs.Expanded.{runOf};
 ghost use Rattle.expandmany.specs.Many.{manyOf};
-ghost use Rattle.expand.specs.ExpandCall.{lentOf, ManyAnswered};
+ghost use Rattle.expand.specs.ExpandCall.{lentOf, ManyAnswered, OneAnswered};
 
 pub enum ExpandAnswer {
     RtPeaks(usize),
@@ -95,4 +97,60 @@ pub fn expand_many_im_peaks_along_rt(
         ));
     }
     ExpandAnswer::Refused(no)
+}
+
+// As many of the first weights as tell whether they are sound.
+fn first_weights(n: usize) -> usize
+    ensures { λ r. ⌜ r ≡ min n 258 ⌝ }
+{
+    if n < 258 { n } else { 258 }
+}
+
+// Writes the retention peaks of the mobility peak whose record is handed in to the front of `out` and answers how many there are; or
+// answers with a number and leaves all four lists as they are.
+pub fn expand_im_peak_along_rt(
+    peak: &[u32],
+    starts: &[u32],
+    bins: &[u32],
+    offsets: &[u32],
+    scans: &[u32],
+    readings: &[f32],
+    ids: &[u32],
+    times: &[f32],
+    scale: TofScale,
+    e: RtExpandParams,
+    weights: &[f32],
+    first: PeakId,
+    out: &mut [u32],
+    raw: &mut [f32],
+    smooth: &mut [f32],
+    order: &mut [u32],
+) -> ExpandAnswer
+    ensures { λ r. ⌜ OneAnswered (runOf (indexOf (now (starts .entry)) (now (bins .entry)) (now (offsets .entry)) (now (scans .entry)) (now (readings .entry))) (now (ids .entry)) (now (times .entry)) scale) e (now (peak .entry)) (now (weights .entry)) first
+        (lentOf (now (out .entry)) (now (raw .entry)) (now (smooth .entry)) (now (order .entry)))
+        (lentOf (now (out .exit)) (now (raw .exit)) (now (smooth .exit)) (now (order .exit))) r ⌝ }
+{
+    let k = first_weights(weights.len());
+    let lengths = [k as u32];
+    let mut counts = [0u32; 1];
+    expand_many_im_peaks_along_rt(
+        peak,
+        starts,
+        bins,
+        offsets,
+        scans,
+        readings,
+        ids,
+        times,
+        scale,
+        e,
+        &weights[..k],
+        &lengths,
+        first,
+        out,
+        &mut counts,
+        raw,
+        smooth,
+        order,
+    )
 }

@@ -1,8 +1,8 @@
 -- How many retention peaks a mobility peak can have.
-use mathlib.Core.Path.{_≡_, refl, sym, ap, _∙_}
+use mathlib.Core.Path.{_≡_, refl, ap, _∙_}
 use mathlib.Core.Bool.{Bool, true, false, cond}
-use mathlib.Core.List.{List, [], _∷_, map, reverse}
-use Prim.Native.Nat.{ℕ, suc, _≤_, _<_, _+_, _-_, max}
+use mathlib.Core.List.{List, [], _∷_, map}
+use Prim.Native.Nat.{ℕ, suc, _≤_, _<_, max}
 use native.Mathlib.Omega.{arith}
 use lib.ListN.{length, length-map, length-reverse}
 use lib.Ieee.{Float}
@@ -31,7 +31,7 @@ use Rattle.expandwindow.specs.Window.{cut}
 use Rattle.expandtrace.specs.declared.inner.Way.{Way}
 use Rattle.expandtrace.specs.declared.inner.Way.the-variants.{AllZero, TooShort, Smoothed}
 use Rattle.expandtrace.specs.Trace.{traceOver, wayOf}
-use Rattle.expandtrace.specs.FallbackPeaks.{apexesIn, placedAll, fallbackPeaks}
+use Rattle.expandtrace.specs.FallbackPeaks.{apexesIn, fallbackPeaks}
 use Rattle.expandtrace.proofs.Peaks.{placed-length}
 use Rattle.expandpeak.specs.Expanded.{Run, floorOf, searched, searchedPeaks, orElse, byWay, peaksOver, peaksIn, windowIn, expanded}
 use Rattle.expandone.specs.Steps.{most}

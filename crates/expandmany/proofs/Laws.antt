@@ -1,8 +1,7 @@
 -- Laws of mobility peaks expanded one after another.
 use mathlib.Core.Path.{_≡_, refl, sym, ap, _∙_, subst}
-use mathlib.Core.Bool.{true}
-use mathlib.Core.List.{List, [], _∷_, _++_, map, map-append, append-assoc}
-use Prim.Native.Nat.{ℕ, zero, suc, _+_, _-_, _*_, _^_, _≤_, _<_}
+use mathlib.Core.List.{List, [], _∷_, _++_, map-append, append-assoc}
+use Prim.Native.Nat.{ℕ, zero, suc, _+_, _-_, _*_, _≤_, _<_}
 use native.Mathlib.Nat.{mul-le-mul-right, add-mul}
 use native.Mathlib.Numerals.{add-one}
 use native.Mathlib.Omega.{arith}
@@ -11,8 +10,7 @@ use lib.ListN.{length, getD, take, drop, set, length-map, length-append, length-
 use lib.Seq.{take-at, drop-at, drop-drop}
 use lib.Ieee.{Float}
 use Rattle.limits.specs.Limits.{identities}
-use Rattle.smoothing.specs.Smoothing.{soundWeights}
-use Rattle.record.specs.Record.{size, peakAt}
+use Rattle.record.specs.Record.{peakAt}
 use Rattle.record.specs.declared.ImPeak1D.{ImPeak1D}
 use Rattle.record.proofs.Laws.{put-part}
 use Rattle.rtrecord.specs.RtRecord.{rtSize}

@@ -1,8 +1,5 @@
-use mathlib.Core.Path.{sym, _∙_}
-use Prim.Native.Nat.{_-_}
 use native.Mathlib.Omega.{arith}
 use borrow.Author.Needs.{needs}
-use lib.ListN.{length}
 use Rattle.framesums.specs.Steps.{indexOf}
 use Rattle.expandpeak.specs.Expanded.{Run, runOf}
 use Rattle.expandmany.proofs.Laws.{reached, put-reached}
