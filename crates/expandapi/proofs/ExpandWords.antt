@@ -4,6 +4,7 @@ use mathlib.Core.List.{List, _++_}
 use Prim.Native.Nat.{ℕ, _+_, _-_, _*_, _≤_, _<_, _^_}
 use native.Mathlib.Omega.{arith}
 use lib.ListN.{length, drop, length-append, length-drop}
+use lib.Ieee.{Float}
 use Rattle.refusal.specs.AnswersLaws.{fromSays}
 use Rattle.refusal.specs.Answers.{answerBy}
 use Rattle.refusal.proofs.AnswersLaws.{which}
@@ -13,14 +14,16 @@ use Rattle.rtrecord.specs.RtRecord.{rtSize}
 use Rattle.rtrecord.specs.declared.RtPeak1D.{RtPeak1D}
 use Rattle.expandtrace.specs.FallbackPeaks.{peakWords}
 use Rattle.expandtrace.proofs.Peaks.{words-length}
+use Rattle.rtparams.specs.declared.RtExpandParams.{RtExpandParams}
+use Rattle.expandpeak.specs.Expanded.{Run}
 use Rattle.expandmany.specs.Many.{Many, joinedTo}
 use Rattle.expandnumbers.specs.ExpandNumber.{expandChecks}
 use Rattle.expand.specs.declared.ExpandAnswer.{ExpandAnswer}
 use Rattle.expand.specs.declared.ExpandAnswer.the-variants.{RtPeaks, Refused}
-use Rattle.expand.specs.ExpandCall.{expandSays, Lent, peaksIn, manyAsks, manyNumber, ManyAnswered}
+use Rattle.expand.specs.ExpandCall.{expandSays, Lent, peaksIn, manyAsks, manyNumber, ManyAnswered, alone, oneNumber, peaksOf, OneAnswered}
 use Rattle.entryword.specs.Word.{wordOf, itself}
 use Rattle.entryword.proofs.Words.{below, first-below, word-fits, word-told}
-use Rattle.expandapi.specs.Expansion.{answerTo, manyCount, ManyTold, ManyWordTold}
+use Rattle.expandapi.specs.Expansion.{answerTo, manyCount, ManyTold, ManyWordTold, oneCount, OneTold, OneWordTold}
 
 -- an answer is told by what it says
 again : (r : ExpandAnswer) → r ≡ fromSays RtPeaks Refused (expandSays r)
@@ -58,4 +61,26 @@ module _ {m : Many} {was is : Lent} {counts₀ counts : List ℕ} {r : ExpandAns
       record {
         word = e ∙ ap (wordOf itself) (a .answered);
         lists = subst (λ (x : ExpandAnswer). ManyAnswered m was is counts₀ counts x) (expand-which r _ _ (a .answered)) a;
+      }
+
+-- ---- one mobility peak
+
+one-small : (run : Run) (e : RtExpandParams) (peak : List ℕ) (ws : List Float) (first : ℕ) (was : Lent) → oneNumber run e peak ws first was < 64
+one-small run e peak ws first was = number-small (alone run e peak ws first) was 1
+
+pub one-told : OneWordTold
+one-told run e peak ws first was = word-told itself (oneNumber run e peak ws first was) (oneCount run e peak ws first) (one-small run e peak ws first was)
+
+module _ {run : Run} {e : RtExpandParams} {peak : List ℕ} {ws : List Float} {first : ℕ} {was is : Lent} {r : ExpandAnswer} (a : OneAnswered run e peak ws first was is r) where
+  pub one-fits : length (is .out) ≡ length (was .out) → length (was .out) < 2 ^ 61 → wordOf itself (expandSays r) < 2 ^ 64
+  one-fits kept short =
+      rw (a .answered)
+      (word-fits itself (oneNumber run e peak ws first was) (oneCount run e peak ws first) (one-small run e peak ws first was)
+      (λ z. omega (arith, few (peaksOf run e peak ws first) (was .out) (is .out) (a .accepted z .words) kept, short)))
+
+  pub one-word : (w : ℕ) → w ≡ wordOf itself (expandSays r) → OneTold run e peak ws first was is w
+  one-word w q =
+      record {
+        word = q ∙ ap (wordOf itself) (a .answered);
+        lists = subst (λ (x : ExpandAnswer). OneAnswered run e peak ws first was is x) (expand-which r _ _ (a .answered)) a;
       }
