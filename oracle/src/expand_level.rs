@@ -44,21 +44,27 @@ impl Expand {
     /// With the Rust's weights and just as much room as is asked for.
     pub fn new(list: Vec<u32>, index: FrameIndex, ids: Vec<u32>, times: Vec<f32>, scale: TofScale, params: RtExpandParams, truncate: f32) -> Self {
         let mut c = Expand { list, index, ids, times, scale, params, truncate, weights: Vec::new(), lengths: Vec::new(), first: 0, rooms: [0; 5] };
-        let sigmas = c.sigmas();
-        // the most weights are 257
-        let widest = sigmas.iter().copied().fold(0.75, f32::max);
-        if (c.truncate * widest).ceil() > 128.0 {
-            c.truncate = 127.0 / widest;
-        }
-        for sigma in sigmas {
-            let own = if sigma == 0.0 { vec![1.0] } else { gaussian(sigma, c.truncate) };
-            c.lengths.push(own.len() as u32);
-            c.weights.extend(own);
-        }
+        c.weigh();
         let frames = c.frames();
         let most = most(frames).max(1);
         c.rooms = [c.count() * most * RT_WORDS, c.count(), frames, frames, frames];
         c
+    }
+
+    /// Gives each peak the weights that the Rust makes for it.
+    pub fn weigh(&mut self) {
+        let sigmas = self.sigmas();
+        // the most weights are 257
+        let widest = sigmas.iter().copied().fold(0.75, f32::max);
+        if (self.truncate * widest).ceil() > 128.0 {
+            self.truncate = 127.0 / widest;
+        }
+        (self.weights, self.lengths) = (Vec::new(), Vec::new());
+        for sigma in sigmas {
+            let own = if sigma == 0.0 { vec![1.0] } else { gaussian(sigma, self.truncate) };
+            self.lengths.push(own.len() as u32);
+            self.weights.extend(own);
+        }
     }
 
     pub fn count(&self) -> usize {
@@ -460,6 +466,10 @@ pub fn compare(t: &mut Tally, count: u64) {
             spoil(&mut r, &mut c);
         }
         let single = c.list.len() / WORDS == 1 && r.one_in(2);
+        // what was changed may be accepted, with another sigma
+        if !fine && c.number(single) == 0 {
+            c.weigh();
+        }
         one(t, &c, single, &mut ways);
         if fine && c.frames() < 100 && r.one_in(6) {
             if c.number(false) == 0 {

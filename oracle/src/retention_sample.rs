@@ -146,7 +146,11 @@ pub fn print(seed: u64, times: u32) {
             if k % 3 == 0 {
                 expand_level::spoil(&mut r, &mut c);
             }
-            expand_line(&c, k % 2 == 0 && c.list.len() <= 27);
+            let one = k % 2 == 0 && c.list.len() <= 27;
+            if c.number(one) == 0 {
+                c.weigh();
+            }
+            expand_line(&c, one);
         }
     }
 }
