@@ -4,7 +4,7 @@ use rubzolena::*;
 
 const SCALE: TofScale = TofScale { tof_min: 40, tof_max: 60, tof_step: 4, num_bins: 6 };
 const SCANS: (u32, u32) = (100, 111);
-const FRAMES: u32 = 24;
+const FRAMES: u32 = 60;
 
 /// A height that falls evenly to 0 on either side.
 fn tent(at: u32, centre: f32, reach: f32, height: f32) -> f32 {
@@ -13,8 +13,8 @@ fn tent(at: u32, centre: f32, reach: f32, height: f32) -> f32 {
 
 /// The points of a frame: two substances, one of which comes twice.
 fn points(frame: u32) -> (Vec<u32>, Vec<u32>, Vec<f32>) {
-    let early = tent(frame, 6.0, 5.0, 400.0);
-    let twice = tent(frame, 8.0, 4.0, 250.0) + tent(frame, 17.0, 4.5, 300.0);
+    let early = tent(frame, 14.0, 5.0, 400.0);
+    let twice = tent(frame, 26.0, 4.0, 250.0) + tent(frame, 42.0, 4.5, 300.0);
     let (mut tofs, mut scans, mut readings) = (Vec::new(), Vec::new(), Vec::new());
     for scan in SCANS.0..=SCANS.1 {
         for (tof, amount) in [(45, early * tent(scan, 103.0, 3.0, 1.0)), (57, twice * tent(scan, 107.0, 4.0, 1.0))] {
@@ -59,7 +59,7 @@ fn whole_way() -> Result<(), u32> {
     let times: Vec<f32> = (0..FRAMES).map(|k| 60.0 + 0.5 * k as f32).collect();
     let columns: Vec<u32> = (SCANS.0..=SCANS.1).collect();
     let mut peaks = Vec::new();
-    for frames in [(0, 13), (10, 23)] {
+    for frames in [(0, 34), (20, 59)] {
         let found = Grid {
             rows: SCALE.num_bins as usize,
             cols: columns.len(),

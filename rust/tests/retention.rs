@@ -68,7 +68,7 @@ fn windows() {
     assert_eq!((expand_window_into(&mobility_peak((103, 104)).0, ctx, params, &mut short), short), (Err(20), [7; 2]));
 }
 
-/// A run of five frames a second with one bin, whose readings are a trace.
+/// A run of frames with a point each, whose readings are a trace.
 fn index(trace: &[f32]) -> FrameIndex {
     let mut index = FrameIndex::default();
     for v in trace {
@@ -81,22 +81,24 @@ const SCALE: TofScale = TofScale { tof_min: 0, tof_max: 9, tof_step: 1, num_bins
 
 #[test]
 fn expansion() {
-    let trace = [0.0, 5.0, 50.0, 5.0, 0.0, 0.0, 5.0, 50.0, 5.0, 0.0, 0.0, 0.0];
+    let mut trace = [0.0; 24];
+    trace[3..6].copy_from_slice(&[5.0, 50.0, 5.0]);
+    trace[13..16].copy_from_slice(&[5.0, 50.0, 5.0]);
     let index = index(&trace);
-    let ids: Vec<u32> = (100..112).collect();
-    let times: Vec<f32> = (0..12).map(|k| 10.0 + k as f32).collect();
+    let ids: Vec<u32> = (100..124).collect();
+    let times: Vec<f32> = (0..24).map(|k| 10.0 + k as f32).collect();
     let ctx = RtTraceCtx { frame_ids_sorted: &ids, rt_times_sec: &times };
     let params = RtExpandParams { bin_pad: 0, rt_pad_frames: 0, ..RtExpandParams::default() };
     let run = Run { index: (&index).into(), scale: SCALE, ctx, params };
-    let peaks = [(100, 111), (99, 104), (106, 107), (109, 111)].map(mobility_peak);
+    let peaks = [(100, 123), (99, 104), (113, 114), (119, 121)].map(mobility_peak);
     let (found, counts) = expand_im_peaks(&peaks, run, |_| vec![0.4, 1.0, 0.4], 9).unwrap();
     assert_eq!(counts, [2, 0, 1, 0], "two peaks; no window; too short, so the fallback's; zeros");
-    assert_eq!(found.iter().map(|p| (p.rt_idx(), p.id(), p.parent_im_id())).collect::<Vec<_>>(), [(2, 9, 77), (7, 10, 77), (6, 11, 77)]);
+    assert_eq!(found.iter().map(|p| (p.rt_idx(), p.id(), p.parent_im_id())).collect::<Vec<_>>(), [(4, 9, 77), (14, 10, 77), (13, 11, 77)]);
     assert_eq!(found[2].rt_sec(), 10.5, "the fallback reads times from the start of the run");
     assert_eq!(expand_im_peaks(&peaks, run, |_| vec![0.4, 0.9, 0.4], 9), Err(6));
-    assert_eq!(expand_im_peaks(&peaks, run, |_| vec![1.0], u32::MAX - 18), Err(4), "20 peaks could need more identities than there are");
-    assert!(expand_im_peaks(&peaks, run, |_| vec![1.0], u32::MAX - 19).is_ok());
+    assert_eq!(expand_im_peaks(&peaks, run, |_| vec![1.0], u32::MAX - 42), Err(4), "44 peaks could need more identities than there are");
+    assert!(expand_im_peaks(&peaks, run, |_| vec![1.0], u32::MAX - 43).is_ok());
     assert_eq!(expand_im_peaks(&[], run, |_| vec![1.0], 9), Ok((vec![], vec![])));
-    let broken = FrameIndex { bins: vec![4_194_304; 12], ..index.clone() };
+    let broken = FrameIndex { bins: vec![4_194_304; 24], ..index.clone() };
     assert_eq!(expand_im_peaks(&peaks, Run { index: (&broken).into(), ..run }, |_| vec![1.0], 9), Err(23));
 }
