@@ -3,7 +3,8 @@
 //! `oracle compare [N [WORD]]` compares every function on N seeded inputs (a million by default), or those of the level with that
 //! word in its name, and exits with 1 on a difference.
 //! `oracle sample [SEED TIMES]` prints the answers that the program `replay_answers` replays; those stored beside it by default.
-//! `oracle sample stitching [SEED TIMES]` prints those of `replay_stitching`, `oracle sample frames [SEED TIMES]` those of `replay_frames`.
+//! `oracle sample stitching [SEED TIMES]` prints those of `replay_stitching`, `oracle sample frames [SEED TIMES]` those of `replay_frames`,
+//! `oracle sample retention [SEED TIMES]` those of `replay_retention`.
 //! `oracle bench [WORD]` times both sides and prints ratios, of the lines with that word in their name.
 mod bench;
 mod expand_level;

@@ -1,9 +1,8 @@
-//! The answers that the program `replay_retention` replays: corners first, then seeded traces, fallbacks and windows, and expansions of
-//! small runs.
+//! The answers that the program `replay_retention` replays: corners first, then seeded traces, fallbacks and windows.
 use crate::inputs::Rng;
 use crate::retention_level::{call_window, corners, fallback_call, noise_call, sample, spoil, Lone, Search, Windowed};
 use crate::words::hexadecimal;
-use crate::{bits, expand_level};
+use crate::bits;
 use rubzolena::{RtExpandParams, ThresholdMode};
 
 const HEAD: &str = "\
@@ -18,10 +17,7 @@ const HEAD: &str = "\
 # 3, the fallback: lengths of trace, frame numbers, times and record; fraction, first identity; words lent; the lists. Then the number,
 # the count, the record.
 # 4, the first call: lengths of record, frame numbers and times; the nine numbers of the parameters; words lent; the lists. Then the
-# number, the count, the window.
-# 5, expansion of one peak, 6 of many: lengths of records, starts, bins, offsets, scans, readings, frame numbers, times, weights and
-# lengths; the scale; the nine numbers of the parameters; the first identity; places lent for records, counts, raw, smooth and order; the
-# lists. Then the number, the count, the count of peaks, the counts, the records.";
+# number, the count, the window.";
 
 /// The words of a line, and those that are lent, at most.
 const MOST: usize = 1_000;
@@ -92,34 +88,11 @@ fn window_line(c: &Windowed) {
     print_line(&w, &[c.room]);
 }
 
-fn expand_line(c: &expand_level::Expand, one: bool) {
-    let i = &c.index;
-    let lengths: &[u32] = if one { &[] } else { &c.lengths };
-    let mut w = vec![if one { 5 } else { 6 }, c.list.len() as u32, i.starts.len() as u32, i.bins.len() as u32, i.offsets.len() as u32];
-    w.extend([i.scans.len(), i.readings.len(), c.ids.len(), c.times.len(), c.weights.len(), lengths.len()].map(|n| n as u32));
-    w.extend([c.scale.tof_min, c.scale.tof_max, c.scale.tof_step, c.scale.num_bins]);
-    w.extend(params(&c.params));
-    w.push(c.first);
-    w.extend(c.rooms.map(|n| n as u32));
-    w.extend(c.list.iter().chain(&i.starts).chain(&i.bins).chain(&i.offsets).chain(&i.scans).copied());
-    w.extend(floats(&i.readings).chain(c.ids.iter().copied()).chain(floats(&c.times)).chain(floats(&c.weights)).chain(lengths.iter().copied()));
-    let number = c.number(one);
-    let (words, counts) = if number == 0 { c.words(&c.rust()) } else { Default::default() };
-    let counts = if one { Vec::new() } else { counts };
-    w.extend([number, words.len() as u32 / 22, counts.len() as u32]);
-    w.extend(counts.into_iter().chain(words));
-    print_line(&w, &c.rooms);
-}
-
 pub fn print(seed: u64, times: u32) {
     println!("{HEAD}");
     for (what, c) in corners() {
         println!("# {what}");
         search_line(&c);
-    }
-    for (what, c) in expand_level::corners() {
-        println!("# {what}");
-        expand_line(&c, true);
     }
     let mut r = Rng::new(seed);
     println!("# seeded");
@@ -140,17 +113,6 @@ pub fn print(seed: u64, times: u32) {
         }
         for _ in 0..50 {
             window_line(&call_window(&mut r));
-        }
-        for k in 0..150 {
-            let mut c = expand_level::sample(&mut r);
-            if k % 3 == 0 {
-                expand_level::spoil(&mut r, &mut c);
-            }
-            let one = k % 2 == 0 && c.list.len() <= 27;
-            if c.number(one) == 0 {
-                c.weigh();
-            }
-            expand_line(&c, one);
         }
     }
 }

@@ -5,9 +5,6 @@ use Prim.Native.Nat.{ℕ, _+_, _-_, _*_, _≤_, _<_, _^_}
 use native.Mathlib.Omega.{arith}
 use lib.ListN.{length, drop, length-append, length-drop}
 use lib.Ieee.{Float}
-use Rattle.refusal.specs.AnswersLaws.{fromSays}
-use Rattle.refusal.specs.Answers.{answerBy}
-use Rattle.refusal.proofs.AnswersLaws.{which}
 use Rattle.limits.specs.Limits.{maxReading}
 use Rattle.frameindex.specs.FrameIndex.{seenIn}
 use Rattle.rtrecord.specs.RtRecord.{rtSize}
@@ -19,19 +16,11 @@ use Rattle.expandpeak.specs.Expanded.{Run}
 use Rattle.expandmany.specs.Many.{Many, joinedTo}
 use Rattle.expandnumbers.specs.ExpandNumber.{expandChecks}
 use Rattle.expand.specs.declared.ExpandAnswer.{ExpandAnswer}
-use Rattle.expand.specs.declared.ExpandAnswer.the-variants.{RtPeaks, Refused}
 use Rattle.expand.specs.ExpandCall.{expandSays, Lent, peaksIn, manyAsks, manyNumber, ManyAnswered, alone, oneNumber, peaksOf, OneAnswered}
+use Rattle.expand.proofs.ExpandLaws.{expand-which}
 use Rattle.entryword.specs.Word.{wordOf, itself}
 use Rattle.entryword.proofs.Words.{below, first-below, word-fits, word-told}
-use Rattle.expandapi.specs.Expansion.{answerTo, manyCount, ManyTold, ManyWordTold, oneCount, OneTold, OneWordTold}
-
--- an answer is told by what it says
-again : (r : ExpandAnswer) → r ≡ fromSays RtPeaks Refused (expandSays r)
-again (RtPeaks n) = refl
-again (Refused n) = refl
-
-expand-which : (r : ExpandAnswer) (n count : ℕ) → expandSays r ≡ answerBy n count → r ≡ answerTo n count
-expand-which r n count e = which RtPeaks Refused expandSays again r n count e
+use Rattle.expandapi.specs.Expansion.{manyCount, ManyTold, ManyWordTold, oneCount, OneTold, OneWordTold}
 
 number-small : (m : Many) (was : Lent) (counts : ℕ) → manyNumber m was counts < 64
 unfolding manyNumber below

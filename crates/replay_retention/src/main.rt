@@ -1,4 +1,4 @@
-// Replays stored answers of the Rust to retention traces and to expansion, through the C entries. Standard input has a line for each: the
+// Replays stored answers of the Rust to retention traces and to expansion's first call, through the C entries. Standard input has a line for each: the
 // call and its answer, as hexadecimal words with one space between. A line that starts with '#' is passed over.
 mod lines;
 mod traces;
