@@ -3,7 +3,7 @@ use mathlib.Core.Path.{_≡_, refl, sym, ap, _∙_, subst}
 use mathlib.Core.Bool.{Bool, true, false, cond}
 use mathlib.Core.List.{List, [], _∷_, _++_, map, append-assoc, List·Memᴰ, List·Memᴰ·not-nil, List·Memᴰ·cases-cons}
 use mathlib.Core.Logic.{⊎-elim}
-use Prim.Native.Nat.{ℕ, zero, suc, _≤_, _<_, _+_, _-_, _*_, _/_}
+use Prim.Native.Nat.{ℕ, zero, suc, _≤_, _<_, _+_, _-_, _*_, _/_, min, max}
 use native.Mathlib.Omega.{arith}
 use borrow.Author.Tests.{eqb-true}
 use lib.ListN.{length, getD, drop, length-map, List·getD-append}
@@ -18,7 +18,7 @@ use Rattle.rtrecord.specs.declared.RtApex.{RtApex}
 use Rattle.rtrecord.specs.declared.RtPeak1D.{RtPeak1D}
 use Rattle.limits.specs.Limits.{exactIndex}
 use Rattle.smoothing.proofs.Laws.{smoothed-length}
-use Rattle.rtplace.specs.Placed.{inRun, placed}
+use Rattle.rtplace.specs.Placed.{inRun, boundsIn, placed}
 use Rattle.rtplace.specs.PlacedLaws.{InFrames, PeakInFrames}
 use Rattle.rtplace.proofs.Laws.{placed-inside}
 use Rattle.rtwindow.proofs.Laws.{window-in}
@@ -150,6 +150,25 @@ module _ (run : Run) (e : RtExpandParams) (ws : List Float) (p : ImPeak1D) (firs
     unfolding rtPeakFrom rtPeakOf
     last-is k h = word-at k 11 h (lit< tt)
 
+    abbrev placedFor : ℕ → RtPeak1D
+    placedFor k = placed lo (length x) (run .ids) p (apexAt k) (first + k)
+
+    abbrev numberOf : ℕ → ℕ
+    numberOf i = getD (run .ids) i 0
+
+    low-is : (k : ℕ) → k < count → rtPeakAt out k .«frame_id_lo» ≡ min (numberOf (placedFor k .«rt_lo»)) (numberOf (placedFor k .«rt_hi»))
+    unfolding rtPeakFrom rtPeakOf placed boundsIn
+    low-is k h = word-at k 12 h (lit< tt)
+
+    high-is : (k : ℕ) → k < count → rtPeakAt out k .«frame_id_hi» ≡ max (numberOf (placedFor k .«rt_lo»)) (numberOf (placedFor k .«rt_hi»))
+    unfolding rtPeakFrom rtPeakOf placed boundsIn
+    high-is k h = word-at k 13 h (lit< tt)
+
+    numbers-are : (k : ℕ) → k < count
+        → (rtPeakAt out k .«frame_id_lo» ≡ min (numberOf (rtPeakAt out k .«rt_lo»)) (numberOf (rtPeakAt out k .«rt_hi»)))
+        × (rtPeakAt out k .«frame_id_hi» ≡ max (numberOf (rtPeakAt out k .«rt_lo»)) (numberOf (rtPeakAt out k .«rt_hi»)))
+    numbers-are k h = rw (first-is k h, last-is k h) (low-is k h, high-is k h)
+
     account : RtAccounted (floorOf e y) (e .«min_sep_sec») (e .«min_width_sec») y x t
     account = rt-account (floorOf e y) (e .«min_sep_sec») (e .«min_width_sec») y x t
 
@@ -199,6 +218,7 @@ module _ (run : Run) (e : RtExpandParams) (ws : List Float) (p : ImPeak1D) (firs
             counted = count-is;
             frames = frame-is;
             inside = inside-is;
+            numbers = numbers-are;
             apexes = account;
             missing = λ i m.
                 let a = account .missing i m in

@@ -3,7 +3,7 @@ use mathlib.Core.Path.{_≡_}
 use mathlib.Core.Bool.{false}
 use mathlib.Core.List.{List}
 use mathlib.Core.Logic.{_⊎_, _↔_}
-use Prim.Native.Nat.{ℕ, _+_, _-_, _<_}
+use Prim.Native.Nat.{ℕ, _+_, _-_, _<_, min, max}
 use lib.ListN.{length, getD}
 use lib.Ieee.{Float}
 use Rattle.smoothing.specs.Smoothing.{smoothed}
@@ -63,6 +63,10 @@ pub record ExpandAccounted (run : Run) (e : RtExpandParams) (ws : List Float) (p
   pub frames : (k : ℕ) → k < count → apexFrame out k ≡ lo + getD (listedOver run e ws p lo hi) k 0
   -- apex and bounds of each record lie in the padded frame window
   pub inside : (k : ℕ) → k < count → PeakInFrames lo (hi + 1 - lo) (rtPeakAt out k)
+  -- its frame numbers are those of its bounds, the lower first
+  pub numbers : (k : ℕ) → k < count
+      → (rtPeakAt out k .«frame_id_lo» ≡ min (getD (run .ids) (rtPeakAt out k .«rt_lo») 0) (getD (run .ids) (rtPeakAt out k .«rt_hi») 0))
+      × (rtPeakAt out k .«frame_id_hi» ≡ max (getD (run .ids) (rtPeakAt out k .«rt_lo») 0) (getD (run .ids) (rtPeakAt out k .«rt_hi») 0))
   -- listed apexes qualify, none stands twice, and so on
   pub apexes : RtAccounted (floorOf e (smoothOver run e ws p lo hi)) (e .«min_sep_sec») (e .«min_width_sec») (smoothOver run e ws p lo hi) (rawOver run e p lo hi) (timesOver run lo hi)
   -- a qualifying apex has no record exactly if another chosen one, no lower, lies closer in time than the least separation, or if it fails a share
