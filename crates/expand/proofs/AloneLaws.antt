@@ -86,7 +86,7 @@ module _ (run : Run) (e : RtExpandParams) (peak : List ℕ) (first : ℕ) (was :
   number-cut ws = by-weights (cutTo ws) ∙ ap (byWeights true) (cut-sound ws) ∙ sym (by-weights ws)
 
   -- where it is 0 there is one record, and the weights are sound
-  one-peak : (ws : List Float) → oneNumber run e peak ws first was ≡ 0 → length peak / size ≡ 1
+  pub one-peak : (ws : List Float) → oneNumber run e peak ws first was ≡ 0 → length peak / size ≡ 1
   unfolding manyNumber manyAsks seenIn
   one-peak ws z =
       let a = both (indexAgrees (run .index)) (not-false _ (none-for (seenIn maxReading (run .index)) (manyAsks (alone run e peak ws first) was 1) 1 z)) in

@@ -98,7 +98,7 @@ under : (a b : ℕ) → a < 4294967296 → b ≤ identities - a → a + b ≤ id
 under a b h k = omega arith
 
 -- ---- what an accepted call has
-module _ (m : Many) (was : Lent) (counts : ℕ) (named : m .first < 4294967296) (none : manyNumber m was counts ≡ 0) where
+module _ (m : Many) (was : Lent) (counts : ℕ) (none : manyNumber m was counts ≡ 0) where
   abbrev ix : Index
   ix = m .run .index
 
@@ -162,9 +162,9 @@ module _ (m : Many) (was : Lent) (counts : ℕ) (named : m .first < 4294967296) 
         rise = others-met .1;
       }
 
-  pub ready : Ready m n (length (was .out)) counts
+  pub ready : m .first < 4294967296 → Ready m n (length (was .out)) counts
   unfolding weightsAt
-  ready =
+  ready named =
       let l = lengths-met in
       let v = values-met in
       let o = others-met in
@@ -183,6 +183,10 @@ module _ (m : Many) (was : Lent) (counts : ℕ) (named : m .first < 4294967296) 
         room = room-is n (most f) (length (was .out)) (o .3);
         counted = leb-true n counts (o .4);
       }
+
+  -- the records that are handed in are sound
+  pub records-sound : (k : ℕ) → k < n → sound (peakAt (m .list) k) ≡ true
+  records-sound k h = each-sound (m .list) n k (others-met .2) h
 
   pub lendable : Lendable f (length (was .raw)) (length (was .smooth)) (length (was .order))
   lendable =

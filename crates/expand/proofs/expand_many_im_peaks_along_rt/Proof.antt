@@ -20,7 +20,7 @@ expand-lent-requires c κs = let t = c .before .before .before .before .before i
     let g = a .before .before .before .before .before .before .before .before .before .before .before .before .before .before .before .before .args in
     let none = number-is (manyOf (runOf (indexOf (g .starts .now) (g .bins .now) (g .offsets .now) (g .scans .now) (g .readings .now)) (g .ids .now) (g .times .now) (g .scale)) (g .e) (g .list .now) (g .weights .now) (g .lengths .now) (g .first)) (lentOf (g .out .now) (g .raw .now) (g .smooth .now) (g .order .now)) (length (g .counts .now)) ∙ sym (a .many-number .ensures) ∙ t .if1 .taken in
     let named : g .first < 4294967296 = omega (arith, a .before .before .before .before .before .before .before .before .before .before .before .before .before .before .before .before .fits .first) in
-    (ready (manyOf (runOf (indexOf (g .starts .now) (g .bins .now) (g .offsets .now) (g .scans .now) (g .readings .now)) (g .ids .now) (g .times .now) (g .scale)) (g .e) (g .list .now) (g .weights .now) (g .lengths .now) (g .first)) (lentOf (g .out .now) (g .raw .now) (g .smooth .now) (g .order .now)) (length (g .counts .now)) named none, lendable (manyOf (runOf (indexOf (g .starts .now) (g .bins .now) (g .offsets .now) (g .scans .now) (g .readings .now)) (g .ids .now) (g .times .now) (g .scale)) (g .e) (g .list .now) (g .weights .now) (g .lengths .now) (g .first)) (lentOf (g .out .now) (g .raw .now) (g .smooth .now) (g .order .now)) (length (g .counts .now)) named none, short (manyOf (runOf (indexOf (g .starts .now) (g .bins .now) (g .offsets .now) (g .scans .now) (g .readings .now)) (g .ids .now) (g .times .now) (g .scale)) (g .e) (g .list .now) (g .weights .now) (g .lengths .now) (g .first)) (lentOf (g .out .now) (g .raw .now) (g .smooth .now) (g .order .now)) (length (g .counts .now)) named none)
+    (ready (manyOf (runOf (indexOf (g .starts .now) (g .bins .now) (g .offsets .now) (g .scans .now) (g .readings .now)) (g .ids .now) (g .times .now) (g .scale)) (g .e) (g .list .now) (g .weights .now) (g .lengths .now) (g .first)) (lentOf (g .out .now) (g .raw .now) (g .smooth .now) (g .order .now)) (length (g .counts .now)) none named, lendable (manyOf (runOf (indexOf (g .starts .now) (g .bins .now) (g .offsets .now) (g .scans .now) (g .readings .now)) (g .ids .now) (g .times .now) (g .scale)) (g .e) (g .list .now) (g .weights .now) (g .lengths .now) (g .first)) (lentOf (g .out .now) (g .raw .now) (g .smooth .now) (g .order .now)) (length (g .counts .now)) none, short (manyOf (runOf (indexOf (g .starts .now) (g .bins .now) (g .offsets .now) (g .scans .now) (g .readings .now)) (g .ids .now) (g .times .now) (g .scale)) (g .e) (g .list .now) (g .weights .now) (g .lengths .now) (g .first)) (lentOf (g .out .now) (g .raw .now) (g .smooth .now) (g .order .now)) (length (g .counts .now)) none)
 
 same-length : tie.Need-same-length
 same-length c = search needs

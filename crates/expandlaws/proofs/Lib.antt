@@ -1,0 +1,2 @@
+-- The proofs of what specs/ states.
+pub mod ExpandAccount

@@ -1,0 +1,1 @@
+// What holds of the retention peaks of a mobility peak. Theorems alone (specs/, proofs/).
