@@ -13,7 +13,8 @@ ghost use Rattle.expandwindow.specs.Window.{windowOf, windowNumber, windowSays}
 ghost use Rattle.fallback.specs.FallbackNumber.{fallbackSays, fallbackNumber, fallbackCount, fallbackList};
 ghost use Rattle.framesums.specs.Steps.{indexOf};
 ghost use Rattle.expandpeak.specs.Expanded.{runOf};
-ghost use Rattle.expand.specs.ExpandCall.{lentOf, OneAnswered};
+ghost use Rattle.expandmany.specs.Many.{manyOf};
+ghost use Rattle.expand.specs.ExpandCall.{lentOf, OneAnswered, ManyAnswered};
 
 pub fn window<'a, 'b>(
     ids: &'a [u32],
@@ -78,6 +79,53 @@ pub fn expand_peak<'a, 'b, 'c, 'd, 'e, 'f, 'g, 'h, 'i, 'j, 'k, 'l>(
         weights,
         first,
         out,
+        raw,
+        smooth,
+        order,
+    )
+}
+
+pub fn expand_peaks<'a, 'b, 'c, 'd, 'e, 'f, 'g, 'h, 'i, 'j, 'k, 'l, 'm, 'n>(
+    ids: &'a [u32],
+    times: &'a [f32],
+    list: &'b [u32],
+    starts: &'c [u32],
+    bins: &'d [u32],
+    offsets: &'e [u32],
+    scans: &'f [u32],
+    readings: &'g [f32],
+    scale: TofScale,
+    e: RtExpandParams,
+    weights: &'h [f32],
+    lengths: &'i [u32],
+    first: PeakId,
+    out: &'j mut [u32],
+    counts: &'k mut [u32],
+    raw: &'l mut [f32],
+    smooth: &'m mut [f32],
+    order: &'n mut [u32],
+) -> ExpandAnswer
+    ensures { λ r. ⌜ ManyAnswered (manyOf (runOf (indexOf (now (starts .entry)) (now (bins .entry)) (now (offsets .entry)) (now (scans .entry)) (now (readings .entry))) (now (ids .entry)) (now (times .entry)) scale) e (now (list .entry)) (now (weights .entry)) (now (lengths .entry)) first)
+        (lentOf (now (out .entry)) (now (raw .entry)) (now (smooth .entry)) (now (order .entry)))
+        (lentOf (now (out .exit)) (now (raw .exit)) (now (smooth .exit)) (now (order .exit)))
+        (now (counts .entry)) (now (counts .exit)) r ⌝ }
+{
+    expand::expand_many_im_peaks_along_rt(
+        list,
+        starts,
+        bins,
+        offsets,
+        scans,
+        readings,
+        ids,
+        times,
+        scale,
+        e,
+        weights,
+        lengths,
+        first,
+        out,
+        counts,
         raw,
         smooth,
         order,
