@@ -3,13 +3,13 @@
 //! `oracle compare [N [WORD]]` compares every function on N seeded inputs (a million by default), or those of the level with that
 //! word in its name, and exits with 1 on a difference.
 //! `oracle sample [SEED TIMES]` prints the answers that the program `replay_answers` replays; those stored beside it by default.
-//! `oracle sample stitching [SEED TIMES]` prints those of `replay_stitching`, `oracle sample frames [SEED TIMES]` those of `replay_frames`,
-//! `oracle sample retention [SEED TIMES]` those of `replay_retention`.
+//! `oracle sample stitching [SEED TIMES]` prints those of `replay_stitching`, `oracle sample run [SEED TIMES]` those of `replay_run`.
 //! `oracle bench [WORD]` times both sides and prints ratios, of the lines with that word in their name.
 mod bench;
 mod expand_level;
 mod frames_bench;
 mod frames_level;
+mod expand_sample;
 mod frames_sample;
 mod grid_level;
 mod inputs;
@@ -21,6 +21,7 @@ mod retention_level;
 mod retention_sample;
 mod row_level;
 mod rows;
+mod run_sample;
 mod sample;
 mod shapes;
 mod stitch_bench;
@@ -94,8 +95,7 @@ fn main() {
         Some("sample") => {
             let (named, print): (usize, fn(u64, u32)) = match words.get(2).map(String::as_str) {
                 Some("stitching") => (1, stitch_sample::print),
-                Some("frames") => (1, frames_sample::print),
-                Some("retention") => (1, retention_sample::print),
+                Some("run") => (1, run_sample::print),
                 _ => (0, sample::print),
             };
             let given = |k: usize, other| words.get(k + named).map_or(other, |n| n.parse().expect("a number"));
@@ -103,7 +103,7 @@ fn main() {
         }
         Some("bench") => bench::run(words.get(2).map_or("", String::as_str)),
         _ => {
-            eprintln!("usage: oracle compare [N [WORD]] | oracle sample [stitching | frames | retention] [SEED TIMES] | oracle bench [WORD]");
+            eprintln!("usage: oracle compare [N [WORD]] | oracle sample [stitching | run] [SEED TIMES] | oracle bench [WORD]");
             std::process::exit(2);
         }
     }
