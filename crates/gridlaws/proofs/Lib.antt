@@ -1,3 +1,4 @@
 -- What the proofs of other crates cite.
+pub mod GridCenter
 pub mod GridRecords
 pub mod GridSound
