@@ -107,5 +107,32 @@ int main(void) {
     expect("its last", window[1], 2);
     expect("its sigma", window[2], 0x40000000);
     expect("the word after it", window[3], 0xaaaaaaaa);
+
+    /* one point a frame, the mobility peak over all three frames; then the same peak twice in a list */
+    const uint32_t begins[4] = {0, 1, 2, 3}, zeros[3] = {0, 0, 0}, lengths[2] = {1, 1};
+    const float lone[1] = {1.0f}, both[2] = {1.0f, 1.0f};
+    uint32_t twice[2 * RUBZOLENA_RECORD_WORDS], expanded[2 * RUBZOLENA_RT_RECORD_WORDS + 1], counts[3];
+    float raw[3], smooth[3];
+    mobility[6] = 5;
+    memcpy(twice, mobility, sizeof mobility);
+    memcpy(twice + RUBZOLENA_RECORD_WORDS, mobility, sizeof mobility);
+    memset(expanded, 0xaa, sizeof expanded);
+    memset(counts, 0xaa, sizeof counts);
+    expect("an expanded peak", rubzolena_expand_im_peak(mobility, RUBZOLENA_RECORD_WORDS, begins, 4, zeros, 3, begins, 4, zeros, 3, hill, 3, ids, 3, times, 3, 0, 9, 1, 10,
+        0, 0.5f, RUBZOLENA_FIXED, 1.0f, 0.0f, 0.0f, 3, 0.25f, 0, lone, 1, 9, expanded, RUBZOLENA_RT_RECORD_WORDS, raw, 3, smooth, 3, scratch, 3), 64);
+    expect("its frame", expanded[0], 1);
+    expect("its identity", expanded[21], 9);
+    expect("the word after it", expanded[RUBZOLENA_RT_RECORD_WORDS], 0xaaaaaaaa);
+    expect("two expanded peaks", rubzolena_expand_many_im_peaks(twice, 2 * RUBZOLENA_RECORD_WORDS, begins, 4, zeros, 3, begins, 4, zeros, 3, hill, 3, ids, 3, times, 3, 0, 9, 1, 10,
+        0, 0.5f, RUBZOLENA_FIXED, 1.0f, 0.0f, 0.0f, 3, 0.25f, 0, both, 2, lengths, 2, 9, expanded, 2 * RUBZOLENA_RT_RECORD_WORDS, counts, 2, raw, 3, smooth, 3, scratch, 3), 128);
+    expect("the first one's count", counts[0], 1);
+    expect("the second one's", counts[1], 1);
+    expect("the word after them", counts[2], 0xaaaaaaaa);
+    expect("the second identity", expanded[RUBZOLENA_RT_RECORD_WORDS + 21], 10);
+    expect("the word after the records", expanded[2 * RUBZOLENA_RT_RECORD_WORDS], 0xaaaaaaaa);
+    expect("no peaks to expand", rubzolena_expand_many_im_peaks(NULL, 0, none, 1, NULL, 0, none, 1, NULL, 0, NULL, 0, NULL, 0, NULL, 0, 0, 9, 1, 10,
+        0, 0.5f, RUBZOLENA_FIXED, 1.0f, 0.0f, 0.0f, 3, 0.25f, 0, NULL, 0, NULL, 0, 9, NULL, 0, NULL, 0, NULL, 0, NULL, 0, NULL, 0), 0);
+    expect("no record to expand", rubzolena_expand_im_peak(NULL, 0, none, 1, NULL, 0, none, 1, NULL, 0, NULL, 0, NULL, 0, NULL, 0, 0, 9, 1, 10,
+        0, 0.5f, RUBZOLENA_FIXED, 1.0f, 0.0f, 0.0f, 3, 0.25f, 0, lone, 1, 9, NULL, 0, NULL, 0, NULL, 0, NULL, 0), RUBZOLENA_LENGTHS);
     return failed;
 }
