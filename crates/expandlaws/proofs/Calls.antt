@@ -1,7 +1,7 @@
 -- What both forms of expansion's second call hand back.
 use mathlib.Core.Path.{_≡_, refl, sym, ap, _∙_, subst}
 use mathlib.Core.Bool.{Bool, true, false, cond}
-use mathlib.Core.List.{List, [], _∷_, _++_, map, append-assoc, append-nil}
+use mathlib.Core.List.{List, [], _++_, append-assoc, append-nil}
 use Prim.Native.Nat.{ℕ, zero, suc, _≤_, _<_, _+_, _*_, _/_}
 use native.Mathlib.Omega.{arith}
 use borrow.Author.Tests.{eqb-true, ltb-true, ltb-false}
@@ -20,11 +20,11 @@ use Rattle.rtparams.specs.declared.RtExpandParams.{RtExpandParams}
 use Rattle.expandwindow.proofs.WindowLaws.{sound-numbers}
 use Rattle.expandtrace.specs.FallbackPeaks.{peakWords}
 use Rattle.expandtrace.proofs.Peaks.{words-join, words-length}
-use Rattle.expandpeak.specs.Expanded.{Run, expanded}
+use Rattle.expandpeak.specs.Expanded.{Run}
 use Rattle.expandmany.specs.Many.{Many, sumTo, weightsAt, expandedAt, joinedTo, countOf, countsTo}
 use Rattle.expand.specs.declared.ExpandAnswer.{ExpandAnswer}
 use Rattle.expand.specs.declared.ExpandAnswer.the-variants.{RtPeaks, Refused}
-use Rattle.expand.specs.ExpandCall.{Lent, peaksIn, manyNumber, alone, oneNumber, peaksOf}
+use Rattle.expand.specs.ExpandCall.{peaksIn, manyNumber, alone, oneNumber, peaksOf}
 use Rattle.expand.proofs.CallLaws.{records-sound, weights-sound, followed, short}
 use Rattle.expand.proofs.AloneLaws.{one-peak}
 use Rattle.expand.proofs.ExpandLaws.{expand-which}

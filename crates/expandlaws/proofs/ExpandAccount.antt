@@ -1,12 +1,12 @@
 -- The records of a mobility peak bear the listed apexes of the window's trace, on the ordinary path, and lie in its window on every path.
 use mathlib.Core.Path.{_≡_, refl, sym, ap, _∙_, subst}
-use mathlib.Core.Bool.{Bool, true, false, cond}
-use mathlib.Core.List.{List, [], _∷_, _++_, map, List·Memᴰ, List·Memᴰ·not-nil, List·Memᴰ·cases-cons}
+use mathlib.Core.Bool.{true}
+use mathlib.Core.List.{List, [], _∷_, _++_, map, List·Memᴰ·not-nil, List·Memᴰ·cases-cons}
 use mathlib.Core.Logic.{⊎-elim}
-use Prim.Native.Nat.{ℕ, zero, suc, _≤_, _<_, _+_, _-_, _*_, _/_, _^_}
+use Prim.Native.Nat.{ℕ, suc, _≤_, _<_, _+_, _*_, _^_}
 use native.Mathlib.Nat.{lt-of-le-of-lt}
 use native.Mathlib.Omega.{arith}
-use lib.ListN.{length, getD, drop, length-map}
+use lib.ListN.{length, getD, length-map, length-append}
 use lib.Dec.{lit<}
 use lib.Ieee.{Float}
 use Rattle.limits.specs.Limits.{maxFrames, exactIndex}
@@ -20,15 +20,14 @@ use Rattle.rowsearch.specs.Account.{_∈_}
 use Rattle.rowsearch.specs.Qualifying.{leftX, rightX}
 use Rattle.rowlaws.proofs.Enclosed.{left-at, right-at}
 use Rattle.rowlaws.proofs.Scans.{left-sample, right-sample}
-use Rattle.rtrecord.specs.RtRecord.{rtSize, rtPeakAt, rtPeakOf}
+use Rattle.rtrecord.specs.RtRecord.{rtPeakAt, rtPeakOf}
 use Rattle.rtrecord.specs.declared.RtApex.{RtApex}
 use Rattle.rtrecord.specs.declared.RtPeak1D.{RtPeak1D}
-use Rattle.rtplace.specs.Placed.{inRun, boundsIn, placed}
-use Rattle.rtwindow.specs.declared.FrameWindow.{FrameWindow}
+use Rattle.rtplace.specs.Placed.{boundsIn, placed}
 use Rattle.rtwindow.specs.declared.FrameWindow.the-variants.{Frames, NoFrames}
 use Rattle.rtwindow.proofs.Laws.{window-in}
 use Rattle.rtlaws.specs.RtAccount.{RtAccounted}
-use Rattle.rtlaws.proofs.RtAccount.{rt-account, qualifying-are}
+use Rattle.rtlaws.proofs.RtAccount.{rt-account}
 use Rattle.digits.proofs.SortedLaws.{at-index}
 use Rattle.rtparams.specs.declared.RtExpandParams.{RtExpandParams}
 use Rattle.rtapex.specs.InTime.{localPeakOf}
@@ -38,8 +37,8 @@ use Rattle.fallback.specs.Fallback.{fallbackOf}
 use Rattle.expandtrace.specs.declared.inner.Way.{Way}
 use Rattle.expandtrace.specs.declared.inner.Way.the-variants.{AllZero, TooShort, Smoothed}
 use Rattle.expandtrace.specs.Trace.{wayOf}
-use Rattle.expandtrace.specs.FallbackPeaks.{apexesIn, placedAll, fallbackPeaks, peakWords}
-use Rattle.expandtrace.proofs.Peaks.{placed-length}
+use Rattle.expandtrace.specs.FallbackPeaks.{apexesIn, fallbackPeaks, peakWords}
+use Rattle.expandtrace.proofs.Peaks.{placed-length, words-length}
 use Rattle.expandone.specs.Steps.{Followed}
 use Rattle.expandone.proofs.Laws.{trace-length, trace-at-most}
 use Rattle.expandpeak.specs.Expanded.{Run, floorOf, searched, orElse, byWay, searchedPeaks, peaksOver, peaksIn, windowIn, expanded}
@@ -49,12 +48,12 @@ use Rattle.expandlaws.proofs.Words.{map-get}
 use Rattle.expandlaws.proofs.Placing.{someApex, Placing, search-placing, over-placing, frame-is, first-is, last-is, in-window}
 
 -- where a member stands
-record Stands (l : List ℕ) (i : ℕ) : Type 0 where
-  k : ℕ
-  low : k < length l
-  is : getD l k 0 ≡ i
+pub record Stands (l : List ℕ) (i : ℕ) : Type 0 where
+  pub k : ℕ
+  pub low : k < length l
+  pub is : getD l k 0 ≡ i
 
-index-of : (l : List ℕ) (i : ℕ) → i ∈ l → Stands l i
+pub index-of : (l : List ℕ) (i : ℕ) → i ∈ l → Stands l i
 index-of [] i m = absurd (List·Memᴰ·not-nil m)
 index-of (j ∷ l) i m =
     ⊎-elim
@@ -215,9 +214,16 @@ module _ (run : Run) (e : RtExpandParams) (ws : List Float) (p : ImPeak1D) (firs
   unfolding expanded peaksIn
   over-is lo hi w = rw (← w) refl
 
+  all-there : (from + count) * 22 ≤ length out
+  all-there =
+      let ps = expanded run e ws p first in
+      let l : length out ≡ length front + (length (peakWords ps) + length rest) = ap length words ∙ length-append front (peakWords ps ++ rest) ∙ ap (λ (n : ℕ). length front + n) (length-append (peakWords ps) rest) in
+      omega (arith, l, long, counted, words-length ps)
+
   pub peak-accounted : PeakAccounted run e ws p from count out
   peak-accounted =
       record {
+        records = all-there;
         none = no-window;
         window = λ lo hi w.
             let i = window-in (run .ids) (p .«frame_id_lo») (p .«frame_id_hi») (e .«rt_pad_frames») lo hi numbers w in

@@ -23,7 +23,6 @@ use Rattle.rtlaws.proofs.RtAccount.{rt-account, qualifying-are}
 use Rattle.digits.proofs.SortedLaws.{at-index}
 use Rattle.rtparams.specs.declared.RtExpandParams.{RtExpandParams}
 use Rattle.rtapex.specs.InTime.{localPeakOf}
-use Rattle.fallback.specs.declared.inner.Fallback.{Fallback}
 use Rattle.fallback.specs.declared.inner.Fallback.the-variants.{Peak, NoPeak}
 use Rattle.fallback.specs.Fallback.{topOf, centroid, apexOf, boundsOf, fallbackOf}
 use Rattle.expandtrace.specs.declared.inner.Way.{Way}

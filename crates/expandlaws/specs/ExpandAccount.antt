@@ -3,7 +3,7 @@ use mathlib.Core.Path.{_≡_}
 use mathlib.Core.Bool.{false}
 use mathlib.Core.List.{List}
 use mathlib.Core.Logic.{_⊎_, _↔_}
-use Prim.Native.Nat.{ℕ, _+_, _-_, _≤_, _<_, min, max}
+use Prim.Native.Nat.{ℕ, _+_, _-_, _*_, _≤_, _<_, min, max}
 use lib.ListN.{length, getD}
 use lib.Ieee.{Float}
 use Rattle.numeric.specs.Plain.{AllFit}
@@ -12,7 +12,7 @@ use Rattle.record.specs.Record.{peakAt}
 use Rattle.record.specs.declared.ImPeak1D.{ImPeak1D}
 use Rattle.rtparams.specs.declared.RtExpandParams.{RtExpandParams}
 use Rattle.rtwindow.specs.declared.FrameWindow.the-variants.{Frames, NoFrames}
-use Rattle.rtrecord.specs.RtRecord.{rtPeakAt}
+use Rattle.rtrecord.specs.RtRecord.{rtSize, rtPeakAt}
 use Rattle.rtrecord.specs.declared.RtPeak1D.{RtPeak1D}
 use Rattle.rtplace.specs.PlacedLaws.{PeakInFrames}
 use Rattle.rowsearch.specs.Account.{_∈_}
@@ -91,6 +91,8 @@ pub record ExpandAccounted (run : Run) (e : RtExpandParams) (ws : List Float) (p
 
 -- What holds of them on every path.
 pub record PeakAccounted (run : Run) (e : RtExpandParams) (ws : List Float) (p : ImPeak1D) (from count : ℕ) (out : List ℕ) : Type 0 where
+  -- all of them are there, so that nothing is read past an end
+  pub records : (from + count) * rtSize ≤ length out
   -- where there is no window there is no record
   pub none : NoFrames ≡ windowIn run e p → count ≡ 0
   -- where there is one, all records lie in it; the bounds of the fallback's may stand reversed

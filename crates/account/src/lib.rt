@@ -1,0 +1,1 @@
+// Demand 3 in one piece. Theorems alone (specs/, proofs/).
