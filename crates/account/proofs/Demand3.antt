@@ -34,6 +34,8 @@ stitched list is count a =
       some = b .some;
       lows = b .lows;
       highs = b .highs;
+      identity = b .identity;
+      identities = b .distinct;
     }
 
 stitching-accounted : StitchingAccounted

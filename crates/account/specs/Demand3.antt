@@ -132,6 +132,9 @@ pub record StitchAccounted (list : List ℕ) (is : StitchLists) (count : ℕ) : 
   -- highest of the high ones.
   pub lows : (k : ℕ) → k < count → (b : Bound) → low b (peakAt (is .out) k) ≡ lowestOf (low b) (memberPeaks list is k)
   pub highs : (k : ℕ) → k < count → (b : Bound) → high b (peakAt (is .out) k) ≡ highestOf (high b) (memberPeaks list is k)
+  -- its identity is the least of its members', and no two stitched peaks have one
+  pub identity : (k : ℕ) → k < count → peakAt (is .out) k .id ≡ lowestOf (λ q. q .id) (memberPeaks list is k)
+  pub identities : (j k : ℕ) → j < count → k < count → peakAt (is .out) j .id ≡ peakAt (is .out) k .id → j ≡ k
 
 -- `stitch::stitch_im_peaks_flat_unordered_impl`, for which `told` is true, where it answers a count
 abbrev pub StitchingAccounted : Type 0
