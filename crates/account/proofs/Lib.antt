@@ -3,3 +3,4 @@ pub mod Grids
 pub mod Expansion
 pub mod Demand3
 pub mod Cases
+pub mod Twelve
