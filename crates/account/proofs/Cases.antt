@@ -36,7 +36,7 @@ use Rattle.expand.proofs.ExpandLaws.{expand-which}
 use Rattle.expandpeak.specs.Expanded.{searched}
 use Rattle.expandlaws.specs.ExpandAccount.{smoothOver, listedOver, Ordinary, ExpandAccounted}
 use Rattle.expandlaws.proofs.Calls.{one-accounted}
-use Rattle.account.specs.Demand3.{qualifyingOver, chosenOver, TooClose, ListedFrame}
+use Rattle.account.specs.Demand3.{qualifyingOver, chosenOver, OrdinaryPath, TooClose, ListedFrame}
 use Rattle.account.specs.Cases as case
 use Rattle.account.specs.Cases.{grid, run, params, peak, p, weights, lists, GridCase, StitchCase, RunCase, SomethingToExplain}
 
@@ -70,6 +70,16 @@ listed-are = rw (smooth-is, case.run-raw, case.run-floor) case.run-listed
 
 ordinary : Ordinary run params weights p 0 8
 ordinary = record { window = case.run-window; long = rw case.run-raw case.run-long; some = rw listed-are (omega arith) }
+
+on-path : OrdinaryPath run params weights p 0 8
+on-path =
+    record {
+      window = case.run-window;
+      long = rw case.run-raw case.run-long;
+      apex = 5;
+      chosen = rw chosen-are (at-index (5 ∷ 1 ∷ []) 0 (omega arith));
+      shares = rw (chosen-are, smooth-is, case.run-raw) case.run-share-best;
+    }
 
 close : TooClose run params weights p 0 8 7
 close =
@@ -115,7 +125,7 @@ module _ (is : Lent) (answer : ExpandAnswer) (a : OneAnswered run params peak we
   run-case =
       record {
         answered = is-count ∙ ap RtPeaks one-record;
-        ordinary = ordinary;
+        ordinary = on-path;
         qualify = rw qualifying-are (at-index (1 ∷ 5 ∷ 7 ∷ []) 0 (omega arith), at-index (1 ∷ 5 ∷ 7 ∷ []) 2 (omega arith));
         not-listed = ((λ l. omega (arith, only-five 1 l)), (λ l. omega (arith, only-five 7 l)));
         close = (close, rw (chosen-are, smooth-is, case.run-raw) case.run-share-met);

@@ -12,13 +12,15 @@ use Rattle.chosen.specs.Chosen.{Distinct}
 use Rattle.rtparams.specs.declared.RtExpandParams.{RtExpandParams}
 use Rattle.rtplace.specs.PlacedLaws.{PeakInFrames}
 use Rattle.rtrecord.specs.declared.RtPeak1D.{RtPeak1D}
-use Rattle.expandpeak.specs.Expanded.{Run, searched}
+use Rattle.rtlaws.proofs.RtAccount.{rt-account}
+use Rattle.expandpeak.specs.Expanded.{Run, floorOf, searched}
 use Rattle.expand.specs.ExpandCall.{oneNumber, OneAnswered, manyNumber, ManyAnswered}
 use Rattle.expandapi.specs.Expansion.{answerTo, oneCount, manyCount}
 use Rattle.expandapi.proofs.ExpandWords.{one-told, many-told}
-use Rattle.expandlaws.specs.ExpandAccount.{listedOver, ExpandAccounted, PeakAccounted}
+use Rattle.expandlaws.specs.ExpandAccount.{rawOver, smoothOver, timesOver, listedOver, Ordinary, ExpandAccounted, PeakAccounted}
+use Rattle.expandlaws.proofs.ExpandAccount.{index-of}
 use Rattle.expandlaws.proofs.Calls.{one-accounted, many-accounted}
-use Rattle.account.specs.Demand3.{Within, RetentionAccounted, ExpansionAccounted, OneExpanded, OneCallExpanded, ManyExpanded, ManyCallsExpanded}
+use Rattle.account.specs.Demand3.{Within, OrdinaryPath, RetentionAccounted, ExpansionAccounted, OneExpanded, OneCallExpanded, ManyExpanded, ManyCallsExpanded}
 
 within : (lo hi : ℕ) (r : RtPeak1D) → PeakInFrames lo (hi + 1 - lo) r → Within lo hi r
 within lo hi r p =
@@ -66,12 +68,22 @@ module _ (run : Run) (e : RtExpandParams) (ws : List Float) (p : ImPeak1D) (from
             );
       }
 
+  -- a chosen apex that meets both shares is listed
+  listed-one : (lo hi : ℕ) → OrdinaryPath run e ws p lo hi → Ordinary run e ws p lo hi
+  unfolding searched
+  listed-one lo hi o =
+      let y = smoothOver run e ws p lo hi in
+      let a = rt-account (floorOf e y) (e .«min_sep_sec») (e .«min_width_sec») y (rawOver run e p lo hi) (timesOver run lo hi) in
+      let s = index-of (listedOver run e ws p lo hi) (o .apex) (a .listed-are (o .apex) .1 (o .chosen, o .shares)) in
+      let low = s .low in
+      record { window = o .window; long = o .long; some = omega arith }
+
   expansion : PeakAccounted run e ws p from count out → ExpansionAccounted run e ws p from count out
   expansion a =
       record {
         records = a .records;
         inside = λ lo hi w k h. within lo hi _ (a .window lo hi w k h .inside);
-        ordinary = λ lo hi o. retention lo hi (a .ordinary lo hi o);
+        ordinary = λ lo hi o. retention lo hi (a .ordinary lo hi (listed-one lo hi o));
       }
 
 pub one-expanded : OneExpanded

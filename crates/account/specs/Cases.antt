@@ -50,7 +50,7 @@ use Rattle.expandtrace.specs.Trace.{traceOver, anyAbove, wayOf}
 use Rattle.expandpeak.specs.Expanded.{Run, runOf, windowIn, floorOf}
 use Rattle.expandnumbers.specs.ExpandNumber.{sumOf, allWeights, soundValues, risingAxes, enoughRoom}
 use Rattle.expand.specs.ExpandCall.{Lent, lentOf, manyAsks, manyNumber, oneNumber}
-use Rattle.expandlaws.specs.ExpandAccount.{rawOver, smoothOver, Ordinary}
+use Rattle.expandlaws.specs.ExpandAccount.{rawOver, smoothOver}
 use Rattle.expand.specs.ExpandCall.{OneAnswered}
 use Rattle.expand.specs.declared.ExpandAnswer.{ExpandAnswer}
 use Rattle.expand.specs.declared.ExpandAnswer.the-variants.{RtPeaks}
@@ -63,7 +63,7 @@ use Rattle.stitch.specs.declared.StitchAnswer.{StitchAnswer}
 use Rattle.stitch.specs.declared.StitchAnswer.the-variants.{Stitched}
 use Rattle.stitch.specs.Answer.{Lent as StitchLists, Answered as StitchAnswered}
 use Rattle.stitchlaws.specs.Cases.{list, before as lent}
-use Rattle.account.specs.Demand3.{qualifyingIn, Listed, members, qualifyingOver, sharesOver, TooClose, ListedFrame}
+use Rattle.account.specs.Demand3.{qualifyingIn, Listed, members, qualifyingOver, sharesOver, OrdinaryPath, TooClose, ListedFrame}
 
 -- ---- a grid of one row, 0 4 0 6 0 8 0, searched as it is, with a least distance of 3: case (f) of document 01
 
@@ -190,6 +190,10 @@ pub run-share : hasShares trace trace (5 ∷ 1 ∷ []) 1 ≡ false
 unfolding listedApexes chosenApexes rtQualifying isWide higherFirst earlierFirst first orderedBy insertedBy passing chooseAll choose nearAny secondsOf apexTime subframe timeAt timeBetween quadF clampF maxF minF absF lerpF qualifying highestReading thatQualify qualifies candidatesTo isCandidate leftX rightX width widthOf leftOf upToHigher least baseline prominence halfHeight runAbove partWay leftCrossing rightCrossing roundF floorF apexArea areaF between within across head whole tail strip heightAt totalArea largest traceArea bestArea meetsShares add sub mul div lt le ne isNan ofInt ofBits toBits neg toUnsigned
 run-share = refl
 
+pub run-share-best : hasShares trace trace (5 ∷ 1 ∷ []) 5 ≡ true
+unfolding listedApexes chosenApexes rtQualifying isWide higherFirst earlierFirst first orderedBy insertedBy passing chooseAll choose nearAny secondsOf apexTime subframe timeAt timeBetween quadF clampF maxF minF absF lerpF qualifying highestReading thatQualify qualifies candidatesTo isCandidate leftX rightX width widthOf leftOf upToHigher least baseline prominence halfHeight runAbove partWay leftCrossing rightCrossing roundF floorF apexArea areaF between within across head whole tail strip heightAt totalArea largest traceArea bestArea meetsShares add sub mul div lt le ne isNan ofInt ofBits toBits neg toUnsigned
+run-share-best = refl
+
 pub run-share-met : hasShares trace trace (5 ∷ 1 ∷ []) 7 ≡ true
 unfolding listedApexes chosenApexes rtQualifying isWide higherFirst earlierFirst first orderedBy insertedBy passing chooseAll choose nearAny secondsOf apexTime subframe timeAt timeBetween quadF clampF maxF minF absF lerpF qualifying highestReading thatQualify qualifies candidatesTo isCandidate leftX rightX width widthOf leftOf upToHigher least baseline prominence halfHeight runAbove partWay leftCrossing rightCrossing roundF floorF apexArea areaF between within across head whole tail strip heightAt totalArea largest traceArea bestArea meetsShares add sub mul div lt le ne isNan ofInt ofBits toBits neg toUnsigned
 run-share-met = refl
@@ -215,7 +219,7 @@ pub record StitchCase (is : StitchLists) (answer : StitchAnswer) : Type 0 where
 -- and that at frame 1 since it fails a share
 pub record RunCase (is : Lent) (answer : ExpandAnswer) : Type 0 where
   pub answered : answer ≡ RtPeaks 1
-  pub ordinary : Ordinary run params weights p 0 8
+  pub ordinary : OrdinaryPath run params weights p 0 8
   pub qualify : (1 ∈ qualifyingOver run params weights p 0 8) × (7 ∈ qualifyingOver run params weights p 0 8)
   pub not-listed : (ListedFrame (is .out) 0 1 1 → ⊥) × (ListedFrame (is .out) 0 1 7 → ⊥)
   pub close : TooClose run params weights p 0 8 7 × (sharesOver run params weights p 0 8 7 ≡ true)

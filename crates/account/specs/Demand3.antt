@@ -36,13 +36,15 @@ use Rattle.rtrecord.specs.declared.RtPeak1D.{RtPeak1D}
 use Rattle.chosen.specs.Times.{nearInTime}
 use Rattle.rtapex.specs.InTime.{apexTime}
 use Rattle.rtsearch.specs.Retention.{rtQualifying, chosenApexes, hasShares}
+use Rattle.expandtrace.specs.declared.inner.Way.the-variants.{Smoothed}
+use Rattle.expandtrace.specs.Trace.{wayOf}
 use Rattle.expandpeak.specs.Expanded.{Run, windowIn, floorOf}
 use Rattle.expandmany.specs.Many.{Many, sumTo, weightsAt}
 use Rattle.expand.specs.declared.ExpandAnswer.the-variants.{RtPeaks}
 use Rattle.expand.specs.ExpandCall.{Lent as ExpandLists, OneAnswered, ManyAnswered}
 use Rattle.expand.specs.ExpandCall.{peaksIn as toExpand}
 use Rattle.expandapi.specs.Expansion.{OneTold, ManyTold}
-use Rattle.expandlaws.specs.ExpandAccount.{rawOver, smoothOver, timesOver, Ordinary}
+use Rattle.expandlaws.specs.ExpandAccount.{rawOver, smoothOver, timesOver}
 
 -- ==== grids
 
@@ -161,8 +163,8 @@ pub record Within (lo hi : ℕ) (r : RtPeak1D) : Type 0 where
   pub first : (lo ≤ r .«rt_lo») × (r .«rt_lo» ≤ hi)
   pub last : (lo ≤ r .«rt_hi») × (r .«rt_hi» ≤ hi)
 
--- Ordinary: the window is not too short by the Rust's own test, and a chosen apex meets both shares (`Ordinary`,
--- expandlaws/specs/ExpandAccount.antt, which has the trace over the window too: raw, smoothed, and its times).
+-- The trace over the window, raw (`rawOver`) and smoothed (`smoothOver`), and its times (`timesOver`) are those of
+-- expandlaws/specs/ExpandAccount.antt.
 
 -- Qualifying retention apexes, by their places in the trace: the same as a row's, with the effective threshold as floor and the unrounded width
 -- in seconds (rtsearch/specs/Retention.antt).
@@ -178,6 +180,14 @@ chosenOver run e ws p lo hi =
 -- whether its area meets both shares, 2% of the trace and 5% of the best chosen
 abbrev pub sharesOver : Run → RtExpandParams → List Float → ImPeak1D → ℕ → ℕ → ℕ → Bool
 sharesOver run e ws p lo hi i = hasShares (smoothOver run e ws p lo hi) (rawOver run e p lo hi) (chosenOver run e ws p lo hi) i
+
+-- Ordinary: the window is not too short by the Rust's own test (`wayOf`, expandtrace/specs/Trace.antt), and a chosen apex meets both shares.
+pub record OrdinaryPath (run : Run) (e : RtExpandParams) (ws : List Float) (p : ImPeak1D) (lo hi : ℕ) : Type 0 where
+  pub window : Window run e p lo hi
+  pub long : Smoothed ≡ wayOf (rawOver run e p lo hi) (e .«fallback_if_frames_lt»)
+  pub apex : ℕ
+  pub chosen : apex ∈ chosenOver run e ws p lo hi
+  pub shares : sharesOver run e ws p lo hi apex ≡ true
 
 -- another one, chosen and no lower, lies closer in time than the least separation, by the f32 difference of apex times
 pub record TooClose (run : Run) (e : RtExpandParams) (ws : List Float) (p : ImPeak1D) (lo hi i : ℕ) : Type 0 where
@@ -215,7 +225,7 @@ pub record ExpansionAccounted (run : Run) (e : RtExpandParams) (ws : List Float)
   pub records : (from + count) * rtSize ≤ length out
   -- all frame bounds lie in the padded frame window
   pub inside : (lo hi : ℕ) → Window run e p lo hi → (k : ℕ) → k < count → Within lo hi (rtPeakAt out (from + k))
-  pub ordinary : (lo hi : ℕ) → Ordinary run e ws p lo hi → RetentionAccounted run e ws p lo hi from count out
+  pub ordinary : (lo hi : ℕ) → OrdinaryPath run e ws p lo hi → RetentionAccounted run e ws p lo hi from count out
 
 -- `expand::expand_im_peak_along_rt`, where it answers a count
 abbrev pub OneExpanded : Type 0
