@@ -89,7 +89,7 @@ pub record GridAccounted (g : Grid) (rows count : ℕ) (out : List ℕ) : Type 0
   -- every record's row and index is a qualifying apex
   pub rows-are : (k : ℕ) → k < count → peakAt out k .«tof_row» < rows
   pub only-qualifying : (k : ℕ) → k < count → peakAt out k .scan ∈ qualifyingIn g (peakAt out k .«tof_row»)
-  -- they ascend strictly, by row and index, so that none stands twice
+  -- they ascend strictly, by row and index (`Before`, gridlaws/specs/GridRecords.antt), so that none stands twice
   pub ascending : (j k : ℕ) → j < k → k < count → Before (peakAt out j) (peakAt out k)
   -- every qualifying apex is listed, or a chain leads from it to a listed one
   pub explained : (r i : ℕ) → r < rows → i ∈ qualifyingIn g r → Listed out count r i ⊎ Chain g out count r i
@@ -130,8 +130,8 @@ pub record StitchAccounted (list : List ℕ) (is : StitchLists) (count : ℕ) : 
   pub no-other : (p k : ℕ) → p ∈ members list is k → k ≡ owner is p
   -- each stitched peak has a member at least
   pub some : (k : ℕ) → k < count → 0 < length (members list is k)
-  -- Its bounds, in TOF, frames, frame numbers, scans and absolute scans, are its members' extremes: the lowest of the low bounds, and the
-  -- highest of the high ones.
+  -- Its bounds, in TOF, frames, frame numbers, scans and absolute scans (`Bound`, merging/specs/MergingLaws.antt), are its members' extremes: the
+  -- lowest of the low bounds, and the highest of the high ones.
   pub lows : (k : ℕ) → k < count → (b : Bound) → low b (peakAt (is .out) k) ≡ lowestOf (low b) (memberPeaks list is k)
   pub highs : (k : ℕ) → k < count → (b : Bound) → high b (peakAt (is .out) k) ≡ highestOf (high b) (memberPeaks list is k)
   -- its identity is the least of its members', and no two stitched peaks have one
@@ -239,8 +239,8 @@ OneCallExpanded =
     (run : Run) (e : RtExpandParams) (peak : List ℕ) (ws : List Float) (first : ℕ) (was is : ExpandLists) (r : ℕ)
     → OneTold run e peak ws first was is r → r % 64 ≡ 0 → ExpansionAccounted run e ws (peakAt peak 0) 0 (r / 64) (is .out)
 
--- Of many mobility peaks, each is accounted for: the count column has a count for each, its records stand behind those of the peaks before it,
--- and there are no others.
+-- Of many mobility peaks, each is accounted for: the count column has a count for each, its records stand behind those of the peaks before it
+-- (`sumTo` adds up the counts before a place), and there are no others.
 pub record AllExpanded (m : Many) (counts out : List ℕ) (total : ℕ) : Type 0 where
   pub each : (q : ℕ) → q < toExpand m
       → ExpansionAccounted (m .run) (m .params) (weightsAt m q) (peakAt (m .list) q) (sumTo counts q) (getD counts q 0) out
