@@ -140,7 +140,7 @@ module _ (m : Many) (was : Lent) (counts : ℕ) (none : manyNumber m was counts 
       let s = all3 (leb f (length (was .raw))) (not-false _ (met 21)) in
       (not-false _ (met 6), both (rising (m .run .ids)) (not-false _ (met 7)) .0, not-false _ (met 9), r .0, r .1, s .0, s .1, s .2)
 
-  followed : Followed (m .run) (m .params)
+  pub followed : Followed (m .run) (m .params)
   followed =
       let l = lengths-met in
       let i = index-met in
@@ -162,8 +162,14 @@ module _ (m : Many) (was : Lent) (counts : ℕ) (none : manyNumber m was counts 
         rise = others-met .1;
       }
 
-  pub ready : m .first < 4294967296 → Ready m n (length (was .out)) counts
+  -- the weights of each peak are sound
+  pub weights-sound : (k : ℕ) → k < n → soundWeights (weightsAt m k) ≡ true
   unfolding weightsAt
+  weights-sound k h =
+      let as-many : length (m .lengths) ≡ length (m .list) / size = eqb-true (length (m .lengths)) n (lengths-met .2) in
+      each-weights (m .lengths) (m .weights) k (others-met .0) (omega (arith, as-many, h))
+
+  pub ready : m .first < 4294967296 → Ready m n (length (was .out)) counts
   ready named =
       let l = lengths-met in
       let v = values-met in
@@ -174,7 +180,7 @@ module _ (m : Many) (was : Lent) (counts : ℕ) (none : manyNumber m was counts 
       let fit : n * most f ≤ identities - m .first = leb-true (n * most f) (identities - m .first) (v .3) in
       record {
         run = followed;
-        weights = λ k h. each-weights (m .lengths) (m .weights) k (o .0) (omega (arith, as-many, h));
+        weights = weights-sound;
         numbers = λ k h. sound-numbers (peakAt (m .list) k) (each-sound (m .list) n k (o .2) h);
         peaks = omega arith;
         lengths = le-of-eq (sym as-many);

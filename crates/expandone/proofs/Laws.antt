@@ -15,7 +15,7 @@ use Rattle.numeric.specs.Plain.{AllFit}
 use Rattle.numeric.proofs.Bounds.{one, mag, AtMost, limitF, in-at-most, all-range, num-plain}
 use Rattle.numeric.proofs.Patterns.{range-at}
 use Rattle.smoothing.specs.Smoothing.{smoothed, soundWeights}
-use Rattle.smoothing.proofs.InRange.{smoothed-at-most}
+use Rattle.smoothing.proofs.InRange.{AllAtMost, smoothed-at-most}
 use Rattle.smoothing.proofs.Laws.{sound-count}
 use Rattle.params.specs.Params.{mostPeaks}
 use Rattle.record.specs.declared.ImPeak1D.{ImPeak1D}
@@ -39,19 +39,25 @@ unfolding mag one ofBits
 mag-summed = refl
 
 -- the trace over the frames lo to hi: sums of 2 ^ 24 readings at most, so below 2 ^ 82, and smoothed likewise
-pub trace-numbers : (run : Run) (e : RtExpandParams) (ws : List Float) (p : ImPeak1D) (lo hi : ℕ) → Followed run e → AllFit (run .index .readings) → AllFit ws → soundWeights ws ≡ true
+pub trace-at-most : (run : Run) (e : RtExpandParams) (ws : List Float) (p : ImPeak1D) (lo hi : ℕ) → Followed run e → AllFit (run .index .readings) → AllFit ws → soundWeights ws ≡ true
     → lo ≤ hi → hi < length (run .ids)
-    → allInRange anyNumber (smoothed ws (traceOver (run .index) (run .scale) (e .«bin_pad») p lo hi)) ≡ true
+    → AllAtMost (smoothed ws (traceOver (run .index) (run .scale) (e .«bin_pad») p lo hi)) (one * 2 ^ 82)
 unfolding traceOver
-trace-numbers run e ws p lo hi f fit wfit sound h k =
+trace-at-most run e ws p lo hi f fit wfit sound h k =
     let ix = run .index in
     let frames = f .frames in
     let read : (i : ℕ) → i < length (ix .readings) → AtMost (at (ix .readings) i) (unit 58) =
     λ i l. subst (AtMost (at (ix .readings) i)) mag-summed (in-at-most maxSummed (at (ix .readings) i) (lit< tt) (fit i l) (range-at maxSummed (ix .readings) i (f .readings) l)) in
     let x = frameSums ix (peakWindow (run .scale) (e .«bin_pad») p) lo (hi + 1 - lo) in
     let sums = sums-at-most ix (peakWindow (run .scale) (e .«bin_pad») p) 58 (lit≤ tt) read (f .index) (f .few-points) lo (hi + 1 - lo) (omega arith) in
-    let y = smoothed-at-most 82 (lit≤ tt) ws x sound wfit sums in
-    all-range anyNumber (smoothed ws x) (λ i l. num-plain (at (smoothed ws x) i) (y i l .0) .ranged)
+    smoothed-at-most 82 (lit≤ tt) ws x sound wfit sums
+
+pub trace-numbers : (run : Run) (e : RtExpandParams) (ws : List Float) (p : ImPeak1D) (lo hi : ℕ) → Followed run e → AllFit (run .index .readings) → AllFit ws → soundWeights ws ≡ true
+    → lo ≤ hi → hi < length (run .ids)
+    → allInRange anyNumber (smoothed ws (traceOver (run .index) (run .scale) (e .«bin_pad») p lo hi)) ≡ true
+trace-numbers run e ws p lo hi f fit wfit sound h k =
+    let y = smoothed ws (traceOver (run .index) (run .scale) (e .«bin_pad») p lo hi) in
+    all-range anyNumber y (λ i l. num-plain (at y i) (trace-at-most run e ws p lo hi f fit wfit sound h k i l .0) .ranged)
 
 pub trace-length : (run : Run) (e : RtExpandParams) (p : ImPeak1D) (lo hi : ℕ) → length (traceOver (run .index) (run .scale) (e .«bin_pad») p lo hi) ≡ hi + 1 - lo
 unfolding traceOver

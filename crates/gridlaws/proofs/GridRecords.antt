@@ -25,7 +25,7 @@ use Rattle.gridrows.proofs.Laws.{words-length}
 use Rattle.gridlaws.specs.GridRecords.{Bears, RowsBear, Placed, AllPlaced, Before, RowsAscend, RowsWhole}
 
 -- ---- counts and words, row after row
-count-step : (g : Grid) (n : ℕ) → countTo g (suc n) ≡ countTo g n + length (listedIn g n)
+pub count-step : (g : Grid) (n : ℕ) → countTo g (suc n) ≡ countTo g n + length (listedIn g n)
 unfolding countFrom
 count-step g n = rw zero-add
 
@@ -33,7 +33,7 @@ words-step : (g : Grid) (n : ℕ) → wordsTo g (suc n) ≡ wordsTo g n ++ words
 unfolding wordsFrom
 words-step g n = rw zero-add
 
-count-rise : (g : Grid) (m n : ℕ) → m ≤ n → countTo g m ≤ countTo g n
+pub count-rise : (g : Grid) (m n : ℕ) → m ≤ n → countTo g m ≤ countTo g n
 count-rise g m zero h = let e : m ≡ 0 = omega arith in rw e (omega arith)
 count-rise g m (suc n) h = go (ltb m (suc n)) refl (count-rise g m n)
   where

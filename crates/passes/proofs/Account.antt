@@ -30,7 +30,7 @@ use Rattle.passes.proofs.Owners.{any-some, brought, owner-has, owner-on
 
 -- ---- places of which a test is true
 
-places-has : (test : ℕ → Bool) (qs : List ℕ) (p : ℕ) → List·Memᴰ p qs → test p ≡ true → List·Memᴰ p (placesOf test qs)
+pub places-has : (test : ℕ → Bool) (qs : List ℕ) (p : ℕ) → List·Memᴰ p qs → test p ≡ true → List·Memᴰ p (placesOf test qs)
 unfolding placesOf
 places-has test [] p m h = absurd (List·Memᴰ·not-nil m)
 places-has test (q ∷ qs) p m h = go (test q) refl (λ n. places-has test qs p n h)
@@ -39,7 +39,7 @@ places-has test (q ∷ qs) p m h = go (test q) refl (λ n. places-has test qs p 
     go true e i = ⊎-elim here (λ n. there (i n)) (List·Memᴰ·cases-cons m)
     go false e i = ⊎-elim (λ (f : p ≡ q). clash (test q) (rw (← f) h) e) i (List·Memᴰ·cases-cons m)
 
-places-only : (test : ℕ → Bool) (qs : List ℕ) (p : ℕ) → List·Memᴰ p (placesOf test qs) → List·Memᴰ p qs × (test p ≡ true)
+pub places-only : (test : ℕ → Bool) (qs : List ℕ) (p : ℕ) → List·Memᴰ p (placesOf test qs) → List·Memᴰ p qs × (test p ≡ true)
 unfolding placesOf
 places-only test [] p m = absurd (List·Memᴰ·not-nil m)
 places-only test (q ∷ qs) p m = go (test q) refl (places-only test qs p) m

@@ -1,4 +1,4 @@
--- The crossings at half height, for readings from 0 to 2 ^ 33.
+-- The crossings at half height, for numbers that do not overflow, and so for readings from 0 to 2 ^ 33.
 use mathlib.Core.Path.{_≡_, refl, sym, _∙_, subst}
 use mathlib.Core.Bool.{true}
 use mathlib.Core.List.{List}
@@ -21,6 +21,21 @@ use Rattle.rowlaws.proofs.Whole.{num-index, mag-index}
 use Rattle.rowlaws.proofs.Heights.{base-is, Half, half-is}
 use Rattle.rowlaws.proofs.Crossings.{Place, left-place, right-place}
 
+-- of any numbers below 2 ^ 104
+module _ (y : List Float) (nums : (k : ℕ) → k < length y → Num (at y k)) (most : (k : ℕ) → k < length y → mag (at y k) < 2 ^ 253) (short : length y ≤ 16384) (i : ℕ) (inside : i < length y) where
+  pub half-at : Half y nums i inside (halfHeight y i)
+  half-at = half-is y nums i inside (most i inside)
+
+  pub left-at : Place (leftX y i) 0 i
+  unfolding leftX
+  left-at = let b = base-is y nums i inside in left-place y nums short (halfHeight y i) (half-at .num) i inside (b .left .0) (b .left .1) (le-trans (b .left .2) (half-at .low))
+
+  pub right-at : Place (rightX y i) i (length y - 1)
+  unfolding rightX
+  right-at =
+      let b = base-is y nums i inside in
+      right-place y nums short (halfHeight y i) (half-at .num) i inside (b .right .0) (b .right .1) (b .right .2) (le-trans (b .right .3) (half-at .low))
+
 -- 2 ^ 33
 pub mag-smoothed : mag (limitF 0x5000_0000) ≡ 2 ^ 182
 unfolding mag one ofBits
@@ -33,19 +48,18 @@ module _ (y : List Float) (fit : AllFit y) (ranged : allInRange 0x5000_0000 y �
   pub nums : (k : ℕ) → k < length y → Num (at y k)
   nums k l = smoothed-at-most k l .0
 
+  most : (k : ℕ) → k < length y → mag (at y k) < 2 ^ 253
+  most k l = lt-of-le-of-lt (smoothed-at-most k l .1) (lit< tt)
+
   module _ (i : ℕ) (inside : i < length y) where
     half : Half y nums i inside (halfHeight y i)
-    half = half-is y nums i inside (lt-of-le-of-lt (smoothed-at-most i inside .1) (lit< tt))
+    half = half-at y nums most short i inside
 
     pub left : Place (leftX y i) 0 i
-    unfolding leftX
-    left = let b = base-is y nums i inside in left-place y nums short (halfHeight y i) (half .num) i inside (b .left .0) (b .left .1) (le-trans (b .left .2) (half .low))
+    left = left-at y nums most short i inside
 
     pub right : Place (rightX y i) i (length y - 1)
-    unfolding rightX
-    right =
-        let b = base-is y nums i inside in
-        right-place y nums short (halfHeight y i) (half .num) i inside (b .right .0) (b .right .1) (b .right .2) (le-trans (b .right .3) (half .low))
+    right = right-at y nums most short i inside
 
 in-order : (x y : Float) → Num x → Num y → mag x ≤ mag y → le x y ≡ true
 in-order x y p q h = le-mag x y p q ∙ le-leb (mag x) (mag y) h

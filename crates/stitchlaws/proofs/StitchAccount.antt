@@ -64,7 +64,7 @@ count-accounts told list params was is count a =
 -- ---- the C entry
 
 -- every number is below 64, so that an answer whose remainder is 0 is that of a count
-which : (number count r : ℕ) → number < 64 → r ≡ entryAnswer number count → r % 64 ≡ 0 → (number ≡ 0) × (r / 64 ≡ count)
+pub which : (number count r : ℕ) → number < 64 → r ≡ entryAnswer number count → r % 64 ≡ 0 → (number ≡ 0) × (r / 64 ≡ count)
 which number count r h e z = go (eqb number 0) refl e
   where
     go : (b : Bool) → eqb number 0 ≡ b → r ≡ cond b (count * 64) number → (number ≡ 0) × (r / 64 ≡ count)

@@ -181,6 +181,13 @@ words-back [] h = refl
 words-back (w ∷ ws) h =
     rw (words-four, word-back w (h 0 (omega arith)), words-back ws (λ i l. h (suc i) (omega arith)))
 
+-- and so is each of them by itself, whatever the others are and whatever follows
+pub words-front : (ws rest : List ℕ) (i : ℕ) → i < length ws → getD ws i 0 < 2 ^ 32 → getD (wordsOf (bytesOf ws ++ rest)) i 0 ≡ getD ws i 0
+unfolding bytesOf
+words-front [] rest i h l = absurd (omega arith)
+words-front (w ∷ ws) rest zero h l = rw words-four (word-back w l)
+words-front (w ∷ ws) rest (suc i) h l = rw words-four (words-front ws rest i (omega arith) l)
+
 bytes-back-4 : (p q r s : ℕ) → p < 256 → q < 256 → r < 256 → s < 256 → bytesOfWord (wordOf p q r s) ≡ p ∷ q ∷ r ∷ s ∷ []
 bytes-back-4 p q r s h0 h1 h2 h3 =
     let w = wordOf p q r s in

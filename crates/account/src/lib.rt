@@ -1,0 +1,1 @@
+// Demand 3 in one piece, and the twelve cases of document 01. Theorems alone (specs/, proofs/).
