@@ -1,5 +1,6 @@
-use mathlib.Core.Path.{_≡_, refl, sym, _∙_}
-use mathlib.Core.List.{List}
+use mathlib.Core.Path.{_≡_, refl, sym, ap, _∙_}
+use mathlib.Core.Bool.{true}
+use mathlib.Core.List.{List, _∷_}
 use Prim.Native.Nat.{ℕ, _≤_, _<_, _-_}
 use native.Mathlib.Omega.{arith}
 use borrow.Author.Needs.{needs}
@@ -7,9 +8,9 @@ use lib.ListN.{length, getD, set, length-set}
 use Rattle.record.specs.declared.ImPeak1D.{ImPeak1D}
 use Rattle.peaklist.specs.PeakList.{nth, listWords}
 use Rattle.digits.proofs.SortedLaws.{at-index}
-use Rattle.grouping.specs.Grouping.{peaksAt, groupPeaks}
+use Rattle.grouping.specs.Grouping.{peaksAt, follows, groupPeaks}
 use Rattle.grouping.specs.Walk.{Gathered, marked}
-use Rattle.grouping.proofs.Laws.{groups-none, Walked, walk-start, walk-join, walk-close, end-count, end-marks, end-records}
+use Rattle.grouping.proofs.Laws.{groups-none, in-one, Walked, walk-start, walk-join, walk-close, end-count, end-marks, end-records}
 use Rattle.grouping.proofs.inner.put_groups.Statement.{statement}
 use Rattle.grouping.proofs.inner.put_groups.Tie as tie
 
@@ -87,8 +88,16 @@ cast-place c = let l = c .before .before in
     let s = l .before .before .before .before .before .before .before .before .before .before in
     record { fits = omega (arith, in-column (c .before), s .good .1 .1 .1 .1 .1 .0) }
 
+sub-peak-at : tie.Need-sub-peak-at Inv-loop μ-loop
+sub-peak-at c = omega (arith, c .before .before .loop .inv)
+
 peak-at-requires-2 : tie.Need-peak-at-requires-2 Inv-loop μ-loop
 peak-at-requires-2 c κs = let l = c .before .before in
+    let s = l .before .before .before .before .before .before .before .before .before .before in
+    omega (arith, s .pre .0, more (c .before))
+
+peak-at-requires-3 : tie.Need-peak-at-requires-3 Inv-loop μ-loop
+peak-at-requires-3 c κs = let l = c .before .before .before in
     let s = l .before .before .before .before .before .before .before .before .before .before in
     omega (arith, s .pre .0)
 
@@ -129,14 +138,14 @@ loop-again c = let l = c .before .before .before .before .before .before .before
     let number = l .loop .number in
     let inv = l .loop .inv in
     let more-places = more (c .before .before .before .before .before .before) in
-    let read = c .before .before .before .before .peak-at2 .ensures in
-    let bucket = c .before .before .before .bucket-by2 .ensures in
+    let read = c .before .before .before .peak-at3 .ensures in
     let test = c .before .before .follows .ensures in (
       λ ps start g e. let w = inv .0 ps start g e in
           let same = read ∙ g i more-places in
-          walk-join rule params ps order (s .args .merged .now) start i number (l .loop .«open») (l .loop .merged) (l .loop .column) w (c .joined .result) more-places
-          (rw same at (sym (test rule (nth ps (w .last)) (peaksAt ps (w .older)) (w .opens) bucket) ∙ c .before .if2 .taken))
-          (rw same at (c .joined .ensures rule (nth ps (w .last)) (peaksAt ps (w .older)) (w .opens) bucket)),
+          let last : c .before .before .before .before .peak-at2 .result ≡ nth ps (w .last) = c .before .before .before .before .peak-at2 .ensures ∙ g (i - 1) (omega arith) ∙ ap (nth ps) (sym (w .newest)) in
+          let yes : follows rule params (nth ps (w .last) ∷ peaksAt ps (w .older)) (nth ps (getD order i 0)) ≡ true = rw (last, same) at (sym (test (peaksAt ps (w .older)) (rw last (w .opens))) ∙ c .before .if2 .taken) in
+          walk-join rule params ps order (s .args .merged .now) start i number (l .loop .«open») (l .loop .merged) (l .loop .column) w (c .joined .result) more-places yes
+          (rw same at (c .joined .ensures rule (nth ps (w .last)) (peaksAt ps (w .older)) (w .opens) (rw same (in-one rule params (nth ps (w .last)) (peaksAt ps (w .older)) (nth ps (getD order i 0)) yes)))),
       omega arith,
       omega arith,
       inv .3,
@@ -152,30 +161,30 @@ opened-requires-2 : tie.Need-opened-requires-2 Inv-loop μ-loop
 opened-requires-2 c κs = search needs
 
 add-number : tie.Need-add-number Inv-loop μ-loop
-add-number c = let l = c .before .before .before .before .before .before .before .before .before .before .before in
+add-number c = let l = c .before .before .before .before .before .before .before .before .before .before .before .before in
     let s = l .before .before .before .before .before .before .before .before .before .before in
-    record { fits = omega (arith, l .loop .inv, more (c .before .before .before .before .before .before .before .before .before .before), s .pre .3) }
+    record { fits = omega (arith, l .loop .inv, more (c .before .before .before .before .before .before .before .before .before .before .before), s .pre .3) }
 
 mul-column-3 : tie.Need-mul-column-3 Inv-loop μ-loop
-mul-column-3 c = let l = c .before .before .before .before .before .before .before .before .before .before .before in
+mul-column-3 c = let l = c .before .before .before .before .before .before .before .before .before .before .before .before in
     let s = l .before .before .before .before .before .before .before .before .before .before in
-    record { fits = omega (arith, in-column (c .before .before .before .before .before .before .before .before .before .before), s .good .1 .1 .1 .1 .1 .0) }
+    record { fits = omega (arith, in-column (c .before .before .before .before .before .before .before .before .before .before .before), s .good .1 .1 .1 .1 .1 .0) }
 
 slice-write-column-3 : tie.Need-slice-write-column-3 Inv-loop μ-loop
-slice-write-column-3 c = let l = c .before .before .before .before .before .before .before .before .before .before .before in
+slice-write-column-3 c = let l = c .before .before .before .before .before .before .before .before .before .before .before .before in
     let s = l .before .before .before .before .before .before .before .before .before .before in
-    omega (arith, in-column (c .before .before .before .before .before .before .before .before .before .before), simp length-set at (l .loop .inv .4))
+    omega (arith, in-column (c .before .before .before .before .before .before .before .before .before .before .before), simp length-set at (l .loop .inv .4))
 
 add-i-2 : tie.Need-add-i-2 Inv-loop μ-loop
-add-i-2 c = let l = c .before .before .before .before .before .before .before .before .before .before .before in
+add-i-2 c = let l = c .before .before .before .before .before .before .before .before .before .before .before .before in
     let s = l .before .before .before .before .before .before .before .before .before .before in
     record { fits = omega (arith, s .good .1 .0) }
 
 loop-less-2 : tie.Need-loop-less-2 Inv-loop μ-loop
-loop-less-2 c = search needs
+loop-less-2 c = omega (arith, more (c .before .before .before .before .before .before .before .before .before .before .before))
 
 loop-again-2 : tie.Need-loop-again-2 Inv-loop μ-loop
-loop-again-2 c = let l = c .before .before .before .before .before .before .before .before .before .before .before in
+loop-again-2 c = let l = c .before .before .before .before .before .before .before .before .before .before .before .before in
     let s = l .before .before .before .before .before .before .before .before .before .before in
     let rule = s .args .rule in
     let params = s .args .params in
@@ -183,19 +192,20 @@ loop-again-2 c = let l = c .before .before .before .before .before .before .befo
     let i = l .loop .i in
     let number = l .loop .number in
     let inv = l .loop .inv in
-    let more-places = more (c .before .before .before .before .before .before .before .before .before .before) in
-    let read = c .before .before .before .before .before .before .before .before .peak-at2 .ensures in
-    let bucket = c .before .before .before .before .before .before .before .bucket-by2 .ensures in
-    let test = c .before .before .before .before .before .before .follows .ensures in (
+    let more-places = more (c .before .before .before .before .before .before .before .before .before .before .before) in
+    let read = c .before .before .before .before .before .before .before .before .peak-at3 .ensures in
+    let back = c .before .before .before .before .before .before .before .before .before in
+    let test = c .before .before .before .before .before .before .before .follows .ensures in (
       λ ps start g e. let w = inv .0 ps start g e in
           let same = read ∙ g i more-places in
+          let last : back .peak-at2 .result ≡ nth ps (w .last) = back .peak-at2 .ensures ∙ g (i - 1) (omega arith) ∙ ap (nth ps) (sym (w .newest)) in
           walk-close rule params ps order (s .args .merged .now) start i number (l .loop .«open») (l .loop .merged) (l .loop .column) w (c .opened2 .result) more-places
-          (rw same at (sym (test rule (nth ps (w .last)) (peaksAt ps (w .older)) (w .opens) bucket) ∙ c .before .before .before .before .before .if2 .left))
-          (rw same at (c .opened2 .ensures rule bucket))
-          (c .before .before .before .put-merged .last .0) (c .before .before .before .put-merged .ensures rule (nth ps (w .last)) (peaksAt ps (w .older)) (w .opens)),
+          (rw (last, same) at (sym (test (peaksAt ps (w .older)) (rw last (w .opens))) ∙ c .before .before .before .before .before .before .if2 .left))
+          (rw same at (c .opened2 .ensures rule (c .before .bucket-by2 .ensures)))
+          (c .before .before .before .before .put-merged .last .0) (c .before .before .before .before .put-merged .ensures rule (nth ps (w .last)) (peaksAt ps (w .older)) (w .opens)),
       omega arith,
       omega arith,
-      c .before .before .before .put-merged .kept .0 ∙ inv .3,
+      c .before .before .before .before .put-merged .kept .0 ∙ inv .3,
       simp length-set (omega (arith, simp length-set at (inv .4))),
     )
 
@@ -262,8 +272,9 @@ put-groups-spec =
     mul-place
     shared-slice-read-place
     cast-place
+    sub-peak-at
     peak-at-requires-2
-    bucket-by-requires-2
+    peak-at-requires-3
     follows-requires
     joined-requires
     mul-column-2
@@ -272,6 +283,7 @@ put-groups-spec =
     loop-less
     loop-again
     put-merged-requires
+    bucket-by-requires-2
     opened-requires-2
     add-number
     mul-column-3
