@@ -1,4 +1,3 @@
-use mathlib.Core.Path.{_≡_}
 use borrow.Author.Needs.{needs}
 use Rattle.grouping.specs.Grouping.{bucketBy}
 use Rattle.grouping.proofs.inner.is_of_bucket.Statement.{statement}
