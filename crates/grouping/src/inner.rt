@@ -11,7 +11,7 @@ ghost use mathlib.Core.Bool.{true};
 ghost use mathlib.Core.List.{List, [], _∷_, reverse};
 ghost use Prim.Native.Nat.{_≤_, _+_, _*_};
 ghost use lib.ListN.{length};
-ghost use Rattle.record.specs.Record.{size, withPeak};
+ghost use Rattle.record.specs.Record.{size, peakAt, withPeak};
 ghost use Rattle.record.specs.declared.ImPeak1D.{ImPeak1D as PeakT};
 ghost use Rattle.keys.specs.declared.KeyRule.{KeyRule as RuleT};
 ghost use Rattle.merging.specs.Merging.{merged as mergedPeak};
@@ -82,6 +82,15 @@ fn opened(p: ImPeak1D, bucket: Bucket) -> Open
     }
 }
 
+// The same for the peak at place i of a list. It is read here, so that a peak that joins a group is not written to memory on its way.
+fn opened_at(sorted: &[u32], i: usize, rule: KeyRule) -> Open
+    requires { ⌜ i * size + size ≤ length (now sorted) ⌝ }
+    ensures { λ r. ⌜ Opens rule r (peakAt (now (sorted .entry)) i) [] ⌝ }
+{
+    let p = record::inner::peak_at(sorted, i);
+    opened(p, bucket_by(p, rule))
+}
+
 // A group that takes in one more, of its bucket.
 fn joined(o: Open, p: ImPeak1D) -> Open
     ensures { λ r. ⌜ ((rule : RuleT) (q : PeakT) (qs : List PeakT) → Opens rule o q qs → isSameBucket (bucketBy rule q) (bucketBy rule p) ≡ true → Opens rule r p (q ∷ qs)) ⌝ }
@@ -125,8 +134,7 @@ pub fn put_groups(
         return 0;
     }
     let first = order[0] as usize;
-    let first_peak = record::inner::peak_at(sorted, 0);
-    let mut open = opened(first_peak, bucket_by(first_peak, rule));
+    let mut open = opened_at(sorted, 0, rule);
     let mut number = 0u32;
     column[first] = number;
     let mut i = 1usize;
@@ -140,7 +148,7 @@ pub fn put_groups(
             i += 1;
         } else {
             put_merged(merged, number, open);
-            open = opened(p, bucket_by(p, rule));
+            open = opened_at(sorted, i, rule);
             number += 1;
             column[place] = number;
             i += 1;
