@@ -1,4 +1,4 @@
-use mathlib.Core.Path.{_≡_, refl, sym, ap, _∙_}
+use mathlib.Core.Path.{_≡_, refl, sym, ap, subst, _∙_}
 use mathlib.Core.Bool.{true}
 use mathlib.Core.List.{List, _∷_}
 use Prim.Native.Nat.{ℕ, _≤_, _<_, _-_}
@@ -8,7 +8,8 @@ use lib.ListN.{length, getD, set, length-set}
 use Rattle.record.specs.declared.ImPeak1D.{ImPeak1D}
 use Rattle.peaklist.specs.PeakList.{nth, listWords}
 use Rattle.digits.proofs.SortedLaws.{at-index}
-use Rattle.grouping.specs.Grouping.{peaksAt, follows, groupPeaks}
+use Rattle.keys.specs.Keys.{isSameBucket}
+use Rattle.grouping.specs.Grouping.{bucketBy, peaksAt, follows, groupPeaks}
 use Rattle.grouping.specs.Walk.{Gathered, marked}
 use Rattle.grouping.proofs.Laws.{groups-none, in-one, Walked, walk-start, walk-join, walk-close, end-count, end-marks, end-records}
 use Rattle.grouping.proofs.inner.put_groups.Statement.{statement}
@@ -135,7 +136,7 @@ loop-again c = let l = c .before .before .before .before .before .before .before
           let last : c .before .before .before .before .peak-at .result ≡ nth ps (w .last) = c .before .before .before .before .peak-at .ensures ∙ g (i - 1) (omega arith) ∙ ap (nth ps) (sym (w .newest)) in
           let yes : follows rule params (nth ps (w .last) ∷ peaksAt ps (w .older)) (nth ps (getD order i 0)) ≡ true = rw (last, same) at (sym (test (peaksAt ps (w .older)) (rw last (w .opens))) ∙ c .before .if2 .taken) in
           walk-join rule params ps order (s .args .merged .now) start i number (l .loop .«open») (l .loop .merged) (l .loop .column) w (c .joined .result) more-places yes
-          (rw same at (c .joined .ensures rule (nth ps (w .last)) (peaksAt ps (w .older)) (w .opens) (rw same (in-one rule params (nth ps (w .last)) (peaksAt ps (w .older)) (nth ps (getD order i 0)) yes)))),
+          (rw same at (c .joined .ensures rule (nth ps (w .last)) (peaksAt ps (w .older)) (w .opens) (subst (λ (x : ImPeak1D). isSameBucket (bucketBy rule (nth ps (w .last))) (bucketBy rule x) ≡ true) (sym same) (in-one rule params (nth ps (w .last)) (peaksAt ps (w .older)) (nth ps (getD order i 0)) yes)))),
       omega arith,
       omega arith,
       inv .3,
