@@ -1,21 +1,26 @@
 -- The walk over the places, step by step.
 use mathlib.Core.Path.{_≡_, refl, sym, ap, _∙_}
-use mathlib.Core.Bool.{true, false}
+use mathlib.Core.Bool.{true, false, _&&_}
 use mathlib.Core.List.{List, [], _∷_, _++_, map, reverse, reverseAux, reverse-cons, foldl, foldl-append, append-assoc, map-append}
-use Prim.Native.Nat.{ℕ, _+_, _*_, _<_, _≤_}
+use Prim.Native.Nat.{ℕ, _+_, _-_, _*_, _<_, _≤_}
 use native.Mathlib.Omega.{arith}
 use native.Mathlib.Numerals.{add-one}
 use lib.ListN.{length, getD, take, drop, set, length-append, length-map, drop-of-length-le}
 use lib.Seq.{drop-cons, take-at, drop-append-add, drop-drop}
+use borrow.Author.Tests.{eqb-true}
+use lib.Dec.{eqb}
+use Rattle.refusal.proofs.Bools.{both}
 use Rattle.record.specs.Record.{size, wordsOf, withPeak}
 use Rattle.record.specs.declared.ImPeak1D.{ImPeak1D}
 use Rattle.peaklist.specs.PeakList.{nth, listWords}
 use Rattle.peaklist.proofs.PeakListLaws.{words-length, words-one}
 use Rattle.matching.specs.declared.StitchParams.{StitchParams}
 use Rattle.keys.specs.declared.KeyRule.{KeyRule}
+use Rattle.keys.specs.declared.inner.Bucket.{Bucket}
+use Rattle.keys.specs.Keys.{isSameBucket}
 use Rattle.merging.specs.Merging.{merged}
 use Rattle.grouping.specs.declared.inner.Open.{Open}
-use Rattle.grouping.specs.Grouping.{peaksAt, follows, groupsFrom, groups, groupPeaks}
+use Rattle.grouping.specs.Grouping.{bucketBy, peaksAt, follows, groupsFrom, groups, groupPeaks}
 use Rattle.grouping.specs.Walk.{Opens, numbered, marked}
 use Rattle.grouping.proofs.GroupingLaws.{groups-join, groups-close}
 
@@ -74,6 +79,27 @@ marked-one k (f ∷ gs) g column =
 
 -- ---- the walk
 
+-- buckets that are the same one
+made : ℕ → ℕ → ℕ → ℕ → Bucket
+made a b d e = record { there = a; group = b; scans = d; rows = e }
+
+pub same-bucket : (x y : Bucket) → isSameBucket x y ≡ true → x ≡ y
+unfolding made
+same-bucket x y h =
+    let a = both (eqb (x .there) (y .there) && eqb (x .group) (y .group) && eqb (x .scans) (y .scans)) h in
+    let b = both (eqb (x .there) (y .there) && eqb (x .group) (y .group)) (a .0) in
+    let d = both (eqb (x .there) (y .there)) (b .0) in
+    let e : x .there ≡ y .there = eqb-true (x .there) (y .there) (d .0) in
+    let f : x .group ≡ y .group = eqb-true (x .group) (y .group) (d .1) in
+    let g : x .scans ≡ y .scans = eqb-true (x .scans) (y .scans) (b .1) in
+    let i : x .rows ≡ y .rows = eqb-true (x .rows) (y .rows) (a .1) in
+    let s : made (x .there) (x .group) (x .scans) (x .rows) ≡ made (y .there) (y .group) (y .scans) (y .rows) = rw (e, f, g, i) in s
+
+-- a peak that follows is of the same bucket
+pub in-one : (rule : KeyRule) (params : StitchParams) (q : ImPeak1D) (qs : List ImPeak1D) (p : ImPeak1D) → follows rule params (q ∷ qs) p ≡ true → isSameBucket (bucketBy rule q) (bucketBy rule p) ≡ true
+unfolding follows
+in-one rule params q qs p h = both (isSameBucket (bucketBy rule q) (bucketBy rule p)) h .0
+
 -- The walk has come to the i-th place: the groups `closed` are written, and the open one has the next number and the places
 -- `last` and `older`, newest first.
 pub record Walked (rule : KeyRule) (params : StitchParams) (ps : List ImPeak1D) (order merged₀ column₀ : List ℕ) (i number : ℕ) (o : Open) (out column : List ℕ) : Type 0 where
@@ -82,6 +108,7 @@ pub record Walked (rule : KeyRule) (params : StitchParams) (ps : List ImPeak1D) 
   pub older : List ℕ
   pub whole : groups rule params ps order ≡ closed ++ groupsFrom rule params ps (last ∷ older) (drop i order)
   pub count : number ≡ length closed
+  pub newest : last ≡ getD order (i - 1) 0
   pub opens : Opens rule o (nth ps last) (peaksAt ps older)
   pub records : out ≡ listWords (groupPeaks ps closed) ++ drop (number * size) merged₀
   pub marks : column ≡ numbered number (reverse (last ∷ older)) (marked 0 closed column₀)
@@ -96,6 +123,7 @@ module _ (rule : KeyRule) (params : StitchParams) (ps : List ImPeak1D) (order me
     older = [];
     whole = groups-start rule params ps order h;
     count = refl;
+    newest = refl;
     opens = k;
     records = refl;
     marks = refl;
@@ -131,6 +159,9 @@ module _ (rule : KeyRule) (params : StitchParams) (ps : List ImPeak1D) (order me
       next : drop i order ≡ getD order i 0 ∷ drop (i + 1) order
       next = rw (add-one, drop-cons order i 0)
 
+      behind : getD order i 0 ≡ getD order (i + 1 - 1) 0
+      behind = let e : i + 1 - 1 ≡ i = omega arith in rw e
+
       pub walk-join : follows rule params (peaksAt ps (w .last ∷ w .older)) (nth ps (getD order i 0)) ≡ true
           → Opens rule o′ (nth ps (getD order i 0)) (peaksAt ps (w .last ∷ w .older))
           → Walked rule params ps order merged₀ column₀ (i + 1) number o′ out (set column (getD order i 0) number)
@@ -140,6 +171,7 @@ module _ (rule : KeyRule) (params : StitchParams) (ps : List ImPeak1D) (order me
         older = w .last ∷ w .older;
         whole = w .whole ∙ ap (λ (qs : List ℕ). w .closed ++ groupsFrom rule params ps (w .last ∷ w .older) qs) next ∙ ap (λ gs. w .closed ++ gs) (groups-join rule params ps (w .last ∷ w .older) (getD order i 0) (drop (i + 1) order) f);
         count = w .count;
+        newest = behind;
         opens = k;
         records = w .records;
         marks = ap (λ (l : List ℕ). set l (getD order i 0) number) (w .marks) ∙ sym (numbered-one number (w .last ∷ w .older) (getD order i 0) (marked 0 (w .closed) column₀));
@@ -159,6 +191,7 @@ module _ (rule : KeyRule) (params : StitchParams) (ps : List ImPeak1D) (order me
             ∙ ap (λ gs. w .closed ++ gs) (groups-close rule params ps group (getD order i 0) (drop (i + 1) order) f)
             ∙ sym (append-assoc (w .closed) (reverse group ∷ []) (groupsFrom rule params ps (getD order i 0 ∷ []) (drop (i + 1) order)));
         count = count-closed;
+        newest = behind;
         opens = k;
         records = e ∙ records-closed;
         marks = ap (λ (l : List ℕ). set l (getD order i 0) (number + 1)) marks-closed;

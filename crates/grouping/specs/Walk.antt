@@ -15,7 +15,6 @@ use Rattle.grouping.specs.Grouping.{bucketBy, groups, groupPeaks}
 
 -- o is the group whose newest peak is p, and whose others are qs, newest first
 pub record Opens (rule : KeyRule) (o : Open) (p : ImPeak1D) (qs : List ImPeak1D) : Type 0 where
-  pub newest : o .last ≡ p
   pub bucket : o .bucket ≡ bucketBy rule p
   pub spans : Covers (o .spans) (p ∷ qs)
   pub sums : Holds (o .sums) (reverse (p ∷ qs))

@@ -1,5 +1,5 @@
-// One walk over peaks that stand in their order. The open group is never looked at again: its newest peak, its extremes and its
-// sums are all that is kept of it.
+// One walk over peaks in their order. Of the open group only its newest peak is looked at again, where it stands: its bucket, its
+// extremes and its sums are all that is kept of it.
 use keys::KeyRule;
 use keys::inner::Bucket;
 use matching::StitchParams;
@@ -7,19 +7,20 @@ use matching::inner::Spans;
 use merging::inner::Merging;
 use record::ImPeak1D;
 ghost use mathlib.Core.Path.{_≡_};
+ghost use mathlib.Core.Bool.{true};
 ghost use mathlib.Core.List.{List, [], _∷_, reverse};
 ghost use Prim.Native.Nat.{_≤_, _+_, _*_};
 ghost use lib.ListN.{length};
-ghost use Rattle.record.specs.Record.{size, withPeak};
+ghost use Rattle.record.specs.Record.{size, peakAt, withPeak};
 ghost use Rattle.record.specs.declared.ImPeak1D.{ImPeak1D as PeakT};
 ghost use Rattle.keys.specs.declared.KeyRule.{KeyRule as RuleT};
 ghost use Rattle.merging.specs.Merging.{merged as mergedPeak};
+ghost use Rattle.keys.specs.Keys.{isSameBucket};
 ghost use Rattle.grouping.specs.Grouping.{bucketBy, follows};
 ghost use Rattle.grouping.specs.Walk.{Opens, Gathered, Columned, Grouped};
 
-// The open group: its newest peak with its bucket, its extremes, and what its merge keeps.
+// The open group: its bucket, its extremes, and what its merge keeps.
 struct Open {
-    last: ImPeak1D,
     bucket: Bucket,
     spans: Spans,
     sums: Merging,
@@ -46,14 +47,24 @@ fn bucket_by(p: ImPeak1D, rule: KeyRule) -> Bucket
     }
 }
 
-// Whether a peak may join the open group.
-fn follows(o: Open, p: ImPeak1D, bucket: Bucket, params: StitchParams) -> bool
-    ensures { λ r. ⌜ ((rule : RuleT) (q : PeakT) (qs : List PeakT) → Opens rule o q qs → bucket ≡ bucketBy rule p → r ≡ follows rule params (q ∷ qs) p) ⌝ }
+// Whether b, a bucket of the pass, is that of a peak.
+fn is_of_bucket(b: Bucket, p: ImPeak1D, rule: KeyRule) -> bool
+    ensures { λ r. ⌜ ((q : PeakT) → b ≡ bucketBy rule q → r ≡ isSameBucket b (bucketBy rule p)) ⌝ }
 {
-    let last = o.last;
-    let last_bucket = o.bucket;
+    match rule {
+        KeyRule::First(params) => keys::inner::is_bucket_of(b, p, params),
+        KeyRule::Second => true,
+        KeyRule::Identity => true,
+    }
+}
+
+// Whether a peak may join the open group, whose newest is `last`.
+fn follows(o: Open, last: ImPeak1D, p: ImPeak1D, rule: KeyRule, params: StitchParams) -> bool
+    ensures { λ r. ⌜ ((qs : List PeakT) → Opens rule o last qs → r ≡ follows rule params (last ∷ qs) p) ⌝ }
+{
+    let bucket = o.bucket;
     let spans = o.spans;
-    if keys::inner::is_same_bucket(last_bucket, bucket) {
+    if is_of_bucket(bucket, p, rule) {
         matching::inner::joins(last, spans, p, params)
     } else {
         false
@@ -65,21 +76,29 @@ fn opened(p: ImPeak1D, bucket: Bucket) -> Open
     ensures { λ r. ⌜ ((rule : RuleT) → bucket ≡ bucketBy rule p → Opens rule r p []) ⌝ }
 {
     Open {
-        last: p,
         bucket: bucket,
         spans: matching::inner::spans_of(p),
         sums: merging::inner::start(p),
     }
 }
 
-// A group that takes in one more.
-fn joined(o: Open, p: ImPeak1D, bucket: Bucket) -> Open
-    ensures { λ r. ⌜ ((rule : RuleT) (q : PeakT) (qs : List PeakT) → Opens rule o q qs → bucket ≡ bucketBy rule p → Opens rule r p (q ∷ qs)) ⌝ }
+// The same for the peak at place i of a list. It is read here, so that a peak that joins a group is not written to memory on its way.
+fn opened_at(sorted: &[u32], i: usize, rule: KeyRule) -> Open
+    requires { ⌜ i * size + size ≤ length (now sorted) ⌝ }
+    ensures { λ r. ⌜ Opens rule r (peakAt (now (sorted .entry)) i) [] ⌝ }
 {
+    let p = record::inner::peak_at(sorted, i);
+    opened(p, bucket_by(p, rule))
+}
+
+// A group that takes in one more, of its bucket.
+fn joined(o: Open, p: ImPeak1D) -> Open
+    ensures { λ r. ⌜ ((rule : RuleT) (q : PeakT) (qs : List PeakT) → Opens rule o q qs → isSameBucket (bucketBy rule q) (bucketBy rule p) ≡ true → Opens rule r p (q ∷ qs)) ⌝ }
+{
+    let bucket = o.bucket;
     let spans = o.spans;
     let sums = o.sums;
     Open {
-        last: p,
         bucket: bucket,
         spans: matching::inner::widened(spans, p),
         sums: merging::inner::join(sums, p),
@@ -115,22 +134,21 @@ pub fn put_groups(
         return 0;
     }
     let first = order[0] as usize;
-    let first_peak = record::inner::peak_at(sorted, 0);
-    let mut open = opened(first_peak, bucket_by(first_peak, rule));
+    let mut open = opened_at(sorted, 0, rule);
     let mut number = 0u32;
     column[first] = number;
     let mut i = 1usize;
     while i < order.len() {
         let place = order[i] as usize;
+        let last = record::inner::peak_at(sorted, i - 1);
         let p = record::inner::peak_at(sorted, i);
-        let bucket = bucket_by(p, rule);
-        if follows(open, p, bucket, params) {
-            open = joined(open, p, bucket);
+        if follows(open, last, p, rule, params) {
+            open = joined(open, p);
             column[place] = number;
             i += 1;
         } else {
             put_merged(merged, number, open);
-            open = opened(p, bucket);
+            open = opened_at(sorted, i, rule);
             number += 1;
             column[place] = number;
             i += 1;

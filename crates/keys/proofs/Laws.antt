@@ -1,8 +1,13 @@
 -- Keys in a buffer.
 use mathlib.Core.Path.{_≡_, refl, sym, ap, _∙_}
+use mathlib.Core.Bool.{Bool, true, false}
 use mathlib.Core.List.{List, _++_, append-assoc}
-use Prim.Native.Nat.{ℕ, _+_, _-_, _*_}
+use Prim.Native.Nat.{ℕ, _+_, _-_, _*_, _/_, _<_, _≤_}
+use native.Mathlib.Omega.{arith}
+use native.Mathlib.Nat.{add-mul, div-eq-of-lt-le, le-div-iff-mul-le, div-lt-iff-lt-mul}
 use native.Mathlib.Numerals.{add-one}
+use borrow.Author.Tests.{ltb-true, ltb-false, eq-eqb, ne-eqb}
+use lib.Dec.{ltb, eqb}
 use lib.ListN.{length, take, drop}
 use lib.Seq.{take-at, drop-append-add, drop-drop}
 use borrow.Rule.Slice.PartMut.{putMid}
@@ -13,6 +18,23 @@ use Rattle.peaklist.proofs.PeakListLaws.{peaks-length}
 use Rattle.keys.specs.declared.KeyRule.{KeyRule}
 use Rattle.keys.specs.Keys.{keyOf, widthOf, keyTable}
 use Rattle.keys.proofs.KeysLaws.{table-length, table-one}
+
+-- Which of the intervals of w numbers has x, where the k-th starts at k * w: seen without a division.
+module _ (k w x : ℕ) (some : 0 < w) where
+  next-start : (k + 1) * w ≡ k * w + w
+  next-start = add-mul k 1 w ∙ (omega arith)
+
+  pub from-start : k * w ≤ x → ltb (x - k * w) w ≡ eqb k (x / w)
+  from-start h = go (ltb (x - k * w) w) refl
+    where
+      go : (t : Bool) → ltb (x - k * w) w ≡ t → t ≡ eqb k (x / w)
+      go true e = sym (eq-eqb k (x / w) (sym (div-eq-of-lt-le w h (rw next-start (omega (arith, ltb-true (x - k * w) w e))))))
+      go false e =
+          let far : k + 1 ≤ x / w = le-div-iff-mul-le some .1 (rw next-start (omega (arith, ltb-false (x - k * w) w e))) in
+          sym (ne-eqb k (x / w) (λ (d : k ≡ x / w). omega arith))
+
+  pub before-start : x < k * w → false ≡ eqb k (x / w)
+  before-start h = let near : x / w < k = div-lt-iff-lt-mul some .1 h in sym (ne-eqb k (x / w) (λ (d : k ≡ x / w). omega arith))
 
 -- words R written behind the words P at the front of a buffer
 record-step : (P R out d last : List ℕ) (a r : ℕ) → length P ≡ a → out ≡ P ++ drop a d

@@ -6,7 +6,8 @@ use record::ImPeak1D;
 ghost use mathlib.Core.Path.{_≡_};
 ghost use mathlib.Core.Bool.{cond};
 ghost use mathlib.Core.List.{_++_};
-ghost use Prim.Native.Nat.{_≤_, _+_, _*_, _/_};
+ghost use Prim.Native.Nat.{_≤_, _<_, _+_, _*_, _/_};
+ghost use lib.Dec.{eqb};
 ghost use lib.ListN.{length, drop};
 ghost use Rattle.record.specs.Record.{size};
 ghost use Rattle.peaklist.specs.PeakList.{peaksOf};
@@ -56,10 +57,29 @@ pub fn bucket_of(p: ImPeak1D, params: StitchParams) -> Bucket
     }
 }
 
-pub fn is_same_bucket(x: Bucket, y: Bucket) -> bool
-    ensures { λ r. ⌜ r ≡ isSameBucket x y ⌝ }
+// Whether x falls into the k-th interval, where each has `width` numbers: no division is needed to see that.
+fn falls_into(k: u32, width: u64, x: u32) -> bool
+    requires { ⌜ (0 < width) × (width ≤ 4294967296) ⌝ }
+    ensures { λ r. ⌜ r ≡ eqb k (x / width) ⌝ }
 {
-    (x.there == y.there) & (x.group == y.group) & (x.scans == y.scans) & (x.rows == y.rows)
+    let start = (k as u64) * width;
+    if start <= x as u64 {
+        return (x as u64) - start < width;
+    }
+    false
+}
+
+// Whether b is the bucket of a peak.
+pub fn is_bucket_of(b: Bucket, p: ImPeak1D, params: StitchParams) -> bool
+    ensures { λ r. ⌜ r ≡ isSameBucket b (bucketOf params p) ⌝ }
+{
+    let g = group_in(p, params);
+    let scans = numeric::inner::higher(params.max_scan_delta, 1) as u64;
+    let rows = (params.max_tof_row_delta as u64) + 1;
+    (b.there == g.there)
+        & (b.group == g.number)
+        & falls_into(b.scans, scans, p.scan)
+        & falls_into(b.rows, rows, p.tof_row)
 }
 
 // How many words a key has.

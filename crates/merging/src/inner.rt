@@ -236,12 +236,24 @@ pub fn join(m: Merging, p: ImPeak1D) -> Merging
 
 // ---- the merged peak
 
-// The whole number nearest to a mean. The Rust casts that of the TOF centres to i32 and does not raise it to 0: the same, since
-// accepted centres are not negative and far below 2 ^ 31.
+// The whole number nearest to a mean. Below 2 ^ 23 it is half of one more than the whole halves, and no test has to tell on which side of
+// a whole number the mean lies, which nobody can foresee. The Rust casts that of the TOF centres to i32 and does not raise it to 0: the
+// same, since accepted centres are not negative and far below 2 ^ 31.
+fn whole_of(mean: f32) -> u32
+    ensures { λ r. ⌜ r ≡ whole mean ⌝ }
+{
+    if mean < 8388608.0 {
+        if 0.0 < mean {
+            return (numeric::cast_sat(mean + mean) + 1) / 2;
+        }
+    }
+    numeric::cast_sat(numeric::max(rounding::round(mean), 0.0))
+}
+
 fn whole_mean(sum: f32, divisor: f32) -> u32
     ensures { λ r. ⌜ r ≡ whole (sum ⊘ divisor) ⌝ }
 {
-    numeric::cast_sat(numeric::max(rounding::round(sum / divisor), 0.0))
+    whole_of(sum / divisor)
 }
 
 fn width_of(from: u32, to: u32) -> u32

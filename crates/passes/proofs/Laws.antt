@@ -151,19 +151,19 @@ module _ (list : List ℕ) (n : ℕ) (rule : KeyRule) (params : StitchParams) wh
         rw own (sym (nth-peaks list n i (omega (arith, order-size))))
 
     -- of the list of keys no more is used than a record a peak has, whether records were gathered there or not
-    pub keys-only : (keys₀ keys : List ℕ) → keys ≡ keyTable rule (peaksOf list n) ++ drop (n * widthOf rule) keys₀ → drop (n * size) keys ≡ drop (n * size) keys₀
-    keys-only keys₀ keys f =
+    pub keys-only : (keys₀ keys led : List ℕ) → keys ≡ keyTable rule (peaksOf list n) ++ drop (n * widthOf rule) keys₀ → drop (n * size) led ≡ drop (n * size) keys → drop (n * size) led ≡ drop (n * size) keys₀
+    keys-only keys₀ keys led f g =
         let b : length (keyTable rule (peaksOf list n)) ≡ n * widthOf rule = table-length rule (peaksOf list n) ∙ ap (λ (m : ℕ). m * widthOf rule) (peaks-length list n) in
         let few : n * widthOf rule ≤ n * size = mul-le-mul-left n (omega (arith, width-most rule)) in
-        later keys keys₀ (n * widthOf rule) (n * size) few (ap (drop (n * widthOf rule)) f ∙ drop-at (keyTable rule (peaksOf list n)) (drop (n * widthOf rule) keys₀) (n * widthOf rule) b)
+        g ∙ later keys keys₀ (n * widthOf rule) (n * size) few (ap (drop (n * widthOf rule)) f ∙ drop-at (keyTable rule (peaksOf list n)) (drop (n * widthOf rule) keys₀) (n * widthOf rule) b)
 
-    pub keys-rest : (keys₀ keys sorted : List ℕ) → keys ≡ keyTable rule (peaksOf list n) ++ drop (n * widthOf rule) keys₀
-        → sorted ≡ recordsAt list order ++ drop (length order * size) keys → drop (n * size) sorted ≡ drop (n * size) keys₀
-    keys-rest keys₀ keys sorted f g =
+    pub keys-rest : (keys₀ keys led sorted : List ℕ) → keys ≡ keyTable rule (peaksOf list n) ++ drop (n * widthOf rule) keys₀ → drop (n * size) led ≡ drop (n * size) keys
+        → sorted ≡ recordsAt list order ++ drop (length order * size) led → drop (n * size) sorted ≡ drop (n * size) keys₀
+    keys-rest keys₀ keys led sorted f h g =
         let a : length (recordsAt list order) ≡ n * size = records-length list order in-list ∙ ap (λ (m : ℕ). m * size) order-size in
-        ap (drop (n * size)) g ∙ drop-at (recordsAt list order) (drop (length order * size) keys) (n * size) a
-        ∙ ap (λ (m : ℕ). drop (m * size) keys) order-size
-        ∙ keys-only keys₀ keys f
+        ap (drop (n * size)) g ∙ drop-at (recordsAt list order) (drop (length order * size) led) (n * size) a
+        ∙ ap (λ (m : ℕ). drop (m * size) led) order-size
+        ∙ keys-only keys₀ keys led f h
 
     pub finished : (out₀ column₀ keys₀ column sorted : List ℕ) (count : ℕ) (out made : List ℕ)
         → Grouped rule params (peaksOf list n) order out₀ column count out made → n ≤ length column → drop n column ≡ drop n column₀

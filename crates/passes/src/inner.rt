@@ -111,7 +111,7 @@ fn pass(
 {
     let n = order.len();
     keys::inner::put_keys(list, n, rule, keys);
-    ordering::inner::order_rows(keys, keys::inner::width_of(rule), order, column);
+    leading::inner::order_rows(keys, keys::inner::width_of(rule), order, column);
     if stands(order) {
         return grouping::inner::put_groups(list, order, rule, params, out, column);
     }

@@ -1,6 +1,8 @@
-use mathlib.Core.Path.{refl}
+use mathlib.Core.Path.{_∙_}
 use mathlib.Core.List.{_∷_, reverse, reverse-cons}
 use borrow.Author.Needs.{needs}
+use Rattle.grouping.specs.Grouping.{bucketBy}
+use Rattle.grouping.proofs.Laws.{same-bucket}
 use Rattle.grouping.proofs.inner.joined.Statement.{statement}
 use Rattle.grouping.proofs.inner.joined.Tie as tie
 use Rattle.grouping.proofs.inner.joined.Lts as lts
@@ -13,10 +15,9 @@ join-requires c κs = search needs
 
 returns : tie.Need-returns
 returns c = λ rule q qs h k. record {
-  newest = refl;
-  bucket = k;
+  bucket = h .bucket ∙ same-bucket (bucketBy rule q) (bucketBy rule (c .before .before .before .before .before .args .p)) k;
   spans = c .before .widened .ensures q qs (h .spans);
-  sums = rw (reverse-cons (c .before .before .before .before .args .p) (q ∷ qs)) (c .join .ensures (reverse (q ∷ qs)) (h .sums));
+  sums = rw (reverse-cons (c .before .before .before .before .before .args .p) (q ∷ qs)) (c .join .ensures (reverse (q ∷ qs)) (h .sums));
 }
 
 pub joined-spec : {M : Type 1} → statement M

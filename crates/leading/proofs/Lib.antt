@@ -1,0 +1,2 @@
+-- Lemmas of `leading`.
+pub mod Laws

@@ -1,0 +1,2 @@
+-- The definitions that the contracts of `leading` cite.
+pub mod Leads
