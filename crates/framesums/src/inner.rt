@@ -48,7 +48,7 @@ pub fn first_at(bins: &[u32], from: usize, to: usize, x: u32) -> usize
 }
 
 // The first place whose bin is above x, step by step, since windows are narrow.
-fn first_above(bins: &[u32], from: usize, to: usize, x: u32) -> usize
+pub fn first_above(bins: &[u32], from: usize, to: usize, x: u32) -> usize
     requires { ⌜ (from ≤ to) × (to ≤ length (now bins)) × Rising (now bins) from to ⌝ }
     ensures { λ r. ⌜ FirstAt (now (bins .entry)) from to (x + 1) r ⌝ }
 {
@@ -62,7 +62,7 @@ fn first_above(bins: &[u32], from: usize, to: usize, x: u32) -> usize
     i
 }
 
-fn place_at(list: &[u32], i: usize) -> usize
+pub fn place_at(list: &[u32], i: usize) -> usize
     requires { ⌜ i < length (now list) ⌝ }
     ensures { λ r. ⌜ r ≡ getD (now (list .entry)) i 0 ⌝ }
 {
@@ -132,7 +132,7 @@ fn any_of_eight(scans: &[u32], j: usize, w: Window) -> bool
 }
 
 // The same as point by point; eight points are passed over at a time where none of them lies in the window.
-fn add_points(
+pub fn add_points(
     starts: &[u32],
     bins: &[u32],
     offsets: &[u32],

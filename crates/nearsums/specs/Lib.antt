@@ -1,0 +1,1 @@
+-- The contracts of `nearsums` cite definitions of `framesums` alone.
