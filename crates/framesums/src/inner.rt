@@ -23,7 +23,7 @@ pub struct Span {
 }
 
 // 1 where a is below b, and else 0; reckoned, since at a branch on it the search would lose as much time as in all else.
-fn below(a: u32, b: u32) -> usize
+pub fn below(a: u32, b: u32) -> usize
     ensures { λ r. ⌜ r ≡ cond (ltb a b) 1 0 ⌝ }
 {
     1 - ((a as u64 + 4294967296 - b as u64) / 4294967296) as usize

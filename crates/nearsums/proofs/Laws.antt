@@ -1,17 +1,19 @@
 -- Searches near a place.
-use mathlib.Core.Path.{_≡_, refl, sym, _∙_}
-use mathlib.Core.Bool.{Bool, true, false}
+use mathlib.Core.Path.{_≡_, refl, sym, ap, _∙_, subst}
+use mathlib.Core.Bool.{Bool, true, false, cond}
 use mathlib.Core.List.{List}
 use Prim.Native.Nat.{ℕ, _≤_, _<_, _+_}
 use native.Mathlib.Omega.{arith}
-use borrow.Author.Tests.{ltb-true, ltb-false}
-use lib.Dec.{ltb}
-use lib.ListN.{length, getD}
+use borrow.Author.Tests.{ltb-true, ltb-false, eqb-true, eqb-false}
+use lib.Dec.{ltb, eqb}
+use lib.ListN.{length, getD, set}
+use lib.Seq.{getD-set-same, getD-set-other}
 use lib.Ieee.{Float}
 use Rattle.frameindex.specs.FrameIndex.{Index}
 use Rattle.framesums.specs.declared.inner.Window.{Window}
 use Rattle.framesums.specs.Steps.{Rising, FirstAt, withScans, PointsOf}
 use Rattle.framesums.proofs.Laws.{rise-le, points-none}
+use Rattle.nearsums.specs.Steps.{FirstIn, Placed}
 
 module _ (bins : List ℕ) (from to x : ℕ) (rise : Rising bins from to) where
   -- a part of the places
@@ -48,6 +50,43 @@ module _ (bins : List ℕ) (from to x : ℕ) (rise : Rising bins from to) where
           go true t = g .high j u (ltb-true j b t)
           go false t = high j (ltb-false j b t) v
 
+  -- where the next place has a bin below x, all before it have
+  no-gap : (i r : ℕ) → i < to → getD bins i 0 < x → FirstAt bins from i x r → r ≡ i
+  no-gap i r h l g = go (ltb r i) refl
+    where
+      go : (t : Bool) → ltb r i ≡ t → r ≡ i
+      go true t =
+          let k = ltb-true r i t in
+          let after : from ≤ r = g .after in
+          absurd (omega (arith, g .high r (omega arith) k, rise-le bins from to r i rise after (omega arith) h))
+      go false t = let before : r ≤ i = g .before in omega (arith, ltb-false r i t)
+
+  -- one place more
+  pub first-more : (i r d : ℕ) → i < to → from ≤ i → FirstAt bins from i x r → d ≡ cond (ltb (getD bins i 0) x) 1 0 → FirstAt bins from (i + 1) x (r + d)
+  first-more i r d h a g e = go (ltb (getD bins i 0) x) refl
+    where
+      high-more : (j : ℕ) → r ≤ j → j < i + 1 → x ≤ getD bins i 0 → x ≤ getD bins j 0
+      high-more j u v b = here (ltb j i) refl
+        where
+          here : (t : Bool) → ltb j i ≡ t → x ≤ getD bins j 0
+          here true t = g .high j u (ltb-true j i t)
+          here false t = let q : j ≡ i = omega (arith, ltb-false j i t) in rw q b
+
+      go : (t : Bool) → ltb (getD bins i 0) x ≡ t → FirstAt bins from (i + 1) x (r + d)
+      go true t =
+          let o : d ≡ 1 = e ∙ ap (λ (b : Bool). cond b 1 0) t in
+          let l = ltb-true (getD bins i 0) x t in
+          let n = no-gap i r h l g in
+          rw (o, n) (record { after = omega arith; before = omega arith; low = low-to i h l; high = λ j u v. absurd (omega arith) })
+      go false t =
+          let o : d ≡ 0 = e ∙ ap (λ (b : Bool). cond b 1 0) t in
+          let z : r + 0 ≡ r = omega arith in
+          let before : r ≤ i = g .before in
+          rw (o, z) (record { after = g .after; before = omega arith; low = g .low; high = λ j u v. high-more j u v (ltb-false (getD bins i 0) x t) })
+
+  pub first-whole : (i r : ℕ) → i ≡ to → FirstAt bins from i x r → FirstAt bins from to x r
+  first-whole i r e g = subst (λ (j : ℕ). FirstAt bins from j x r) e g
+
   -- past a place whose bin is below x
   pub first-behind : (h r : ℕ) → from ≤ h → h < to → getD bins h 0 < x → FirstAt bins (h + 1) to x r → FirstAt bins from to x r
   first-behind h r a b d g = wider (h + 1) to r (omega arith) (omega arith) (low-to h b d) (λ j u v. absurd (omega arith)) g
@@ -67,3 +106,20 @@ no-points ix w f p g =
 
 pub same-place : (offsets : List ℕ) (i j : ℕ) → i ≡ j → getD offsets i 0 ≡ getD offsets j 0
 same-place offsets i j e = rw e
+
+-- ---- the places of frames one after another
+
+-- a frame's bins from s up to t
+pub first-in : (ix : Index) (f x r s t : ℕ) → s ≡ getD (ix .starts) f 0 → t ≡ getD (ix .starts) (f + 1) 0 → FirstAt (ix .bins) s t x r → FirstIn ix f x r
+first-in ix f x r s t se te g = rw (sym se, sym te) g
+
+pub first-out : (ix : Index) (f x r t : ℕ) → t ≡ getD (ix .starts) (f + 1) 0 → FirstIn ix f x r → FirstAt (ix .bins) (getD (ix .starts) f 0) t x r
+first-out ix f x r t te g = rw te g
+
+-- a place in a frame's word, and none in the others'
+pub placed-more : (ix : Index) (f k x v : ℕ) (near : List ℕ) → f + k < length near → Placed ix f k x near → FirstIn ix (f + k) x v → Placed ix f (k + 1) x (set near (f + k) v)
+placed-more ix f k x v near h p g j l = go (eqb j k) refl
+  where
+    go : (t : Bool) → eqb j k ≡ t → FirstIn ix (f + j) x (getD (set near (f + k) v) (f + j) 0)
+    go true t = let e : j ≡ k = eqb-true j k t in rw (e, getD-set-same near (f + k) v 0 h) g
+    go false t = let n = eqb-false j k t in rw (getD-set-other near (f + k) (f + j) v 0 (omega arith)) (p j (omega arith))

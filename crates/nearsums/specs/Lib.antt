@@ -1,1 +1,2 @@
--- The contracts of `nearsums` cite definitions of `framesums` alone.
+-- The definitions that the contracts of `nearsums` cite, besides those of `framesums`.
+pub mod Steps

@@ -29,11 +29,11 @@ returns c = let s = c .before .before .before .before in
     (rises-in bins (s .args .h) (s .args .to) (s .args .x) (s .pre .2) (s .args .h + 1) (s .args .to) (omega arith) (omega arith))
     (s .args .h + 7) (c .first-at .result) (omega arith) (omega (arith, s .pre .0)) (c .before .if1 .taken) (c .first-at .ensures)
 
-add-step-to : tie.Need-add-step-to
-add-step-to c = search needs
+add-count-to : tie.Need-add-count-to
+add-count-to c = search needs
 
-step-to-requires : tie.Need-step-to-requires
-step-to-requires c κs = let s = c .before .before .before in
+count-to-requires : tie.Need-count-to-requires
+count-to-requires c κs = let s = c .before .before .before in
     let bins = s .args .bins .now in
     (omega arith, omega (arith, s .pre .0, s .pre .1), rises-in bins (s .args .h) (s .args .to) (s .args .x) (s .pre .2) (s .args .h + 1) (s .args .h + 7) (omega arith) (omega (arith, s .pre .0)))
 
@@ -42,7 +42,7 @@ returns-2 c = let s = c .before .before .before .before in
     let bins = s .args .bins .now in
     first-before bins (s .args .h + 1) (s .args .to) (s .args .x)
     (rises-in bins (s .args .h) (s .args .to) (s .args .x) (s .pre .2) (s .args .h + 1) (s .args .to) (omega arith) (omega arith))
-    (s .args .h + 7) (c .step-to .result) (omega arith) (omega (arith, s .pre .0)) (c .before .if1 .left) (c .step-to .ensures)
+    (s .args .h + 7) (c .count-to .result) (omega arith) (omega (arith, s .pre .0)) (c .before .if1 .left) (c .count-to .ensures)
 
 pub first-past-spec : {M : Type 1} → statement M
 first-past-spec =
@@ -54,6 +54,6 @@ first-past-spec =
     add-first-at
     first-at-requires
     returns
-    add-step-to
-    step-to-requires
+    add-count-to
+    count-to-requires
     returns-2)
