@@ -1,6 +1,6 @@
 -- Searches near a place.
-use mathlib.Core.Path.{_≡_, refl, sym, ap, _∙_, subst}
-use mathlib.Core.Bool.{Bool, true, false, cond}
+use mathlib.Core.Path.{_≡_, refl, sym, _∙_, subst}
+use mathlib.Core.Bool.{Bool, true, false}
 use mathlib.Core.List.{List}
 use Prim.Native.Nat.{ℕ, _≤_, _<_, _+_}
 use native.Mathlib.Omega.{arith}
@@ -61,28 +61,23 @@ module _ (bins : List ℕ) (from to x : ℕ) (rise : Rising bins from to) where
           absurd (omega (arith, g .high r (omega arith) k, rise-le bins from to r i rise after (omega arith) h))
       go false t = let before : r ≤ i = g .before in omega (arith, ltb-false r i t)
 
-  -- one place more
-  pub first-more : (i r d : ℕ) → i < to → from ≤ i → FirstAt bins from i x r → d ≡ cond (ltb (getD bins i 0) x) 1 0 → FirstAt bins from (i + 1) x (r + d)
-  first-more i r d h a g e = go (ltb (getD bins i 0) x) refl
-    where
-      high-more : (j : ℕ) → r ≤ j → j < i + 1 → x ≤ getD bins i 0 → x ≤ getD bins j 0
-      high-more j u v b = here (ltb j i) refl
-        where
-          here : (t : Bool) → ltb j i ≡ t → x ≤ getD bins j 0
-          here true t = g .high j u (ltb-true j i t)
-          here false t = let q : j ≡ i = omega (arith, ltb-false j i t) in rw q b
+  -- one place more, whose bin is below x or is not
+  pub first-counted : (i r : ℕ) → i < to → from ≤ i → getD bins i 0 < x → FirstAt bins from i x r → FirstAt bins from (i + 1) x (r + 1)
+  first-counted i r h a l g =
+      let n = no-gap i r h l g in
+      rw n (record { after = omega arith; before = omega arith; low = low-to i h l; high = λ j u v. absurd (omega arith) })
 
-      go : (t : Bool) → ltb (getD bins i 0) x ≡ t → FirstAt bins from (i + 1) x (r + d)
-      go true t =
-          let o : d ≡ 1 = e ∙ ap (λ (b : Bool). cond b 1 0) t in
-          let l = ltb-true (getD bins i 0) x t in
-          let n = no-gap i r h l g in
-          rw (o, n) (record { after = omega arith; before = omega arith; low = low-to i h l; high = λ j u v. absurd (omega arith) })
-      go false t =
-          let o : d ≡ 0 = e ∙ ap (λ (b : Bool). cond b 1 0) t in
-          let z : r + 0 ≡ r = omega arith in
-          let before : r ≤ i = g .before in
-          rw (o, z) (record { after = g .after; before = omega arith; low = g .low; high = λ j u v. high-more j u v (ltb-false (getD bins i 0) x t) })
+  pub first-passed : (i r : ℕ) → i < to → from ≤ i → x ≤ getD bins i 0 → FirstAt bins from i x r → FirstAt bins from (i + 1) x r
+  first-passed i r h a b g =
+      let before : r ≤ i = g .before in
+      record { after = g .after; before = omega arith; low = g .low; high = high-more }
+    where
+      high-more : (j : ℕ) → r ≤ j → j < i + 1 → x ≤ getD bins j 0
+      high-more j u v = go (ltb j i) refl
+        where
+          go : (t : Bool) → ltb j i ≡ t → x ≤ getD bins j 0
+          go true t = g .high j u (ltb-true j i t)
+          go false t = let q : j ≡ i = omega (arith, ltb-false j i t) in rw q b
 
   pub first-whole : (i r : ℕ) → i ≡ to → FirstAt bins from i x r → FirstAt bins from to x r
   first-whole i r e g = subst (λ (j : ℕ). FirstAt bins from j x r) e g

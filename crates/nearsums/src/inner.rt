@@ -10,15 +10,17 @@ ghost use Rattle.framesums.specs.Sums.{frameSums};
 ghost use Rattle.framesums.specs.Steps.{indexOf, Checked, Rising, FirstAt, PointsOf};
 ghost use Rattle.nearsums.specs.Steps.{FirstIn, Placed};
 
-// The first place whose bin is x at least, of a few: those below are counted, since at a branch on each the processor would lose what it
-// has begun of the frames behind.
+// The first place whose bin is x at least, of a few: those below are counted, all of them, since at a branch that leaves early the
+// processor would lose what it has begun of the frames behind.
 fn count_to(bins: &[u32], from: usize, to: usize, x: u32) -> usize
     requires { ⌜ (from ≤ to) × (to ≤ length (now bins)) × Rising (now bins) from to ⌝ }
     ensures { λ r. ⌜ FirstAt (now (bins .entry)) from to x r ⌝ }
 {
     let mut r = from;
     for i in from..to {
-        r += framesums::inner::below(bins[i], x);
+        if bins[i] < x {
+            r += 1;
+        }
     }
     r
 }

@@ -1,12 +1,11 @@
 use mathlib.Core.Path.{_≡_, refl}
-use Prim.Native.Nat.{_≤_, _-_}
-use Rattle.framesums.specs.Steps.{FirstAt}
-use lib.Dec.{ltb}
-use lib.ListN.{getD}
-use Rattle.framesums.proofs.Laws.{first-none, step-most}
-use Rattle.nearsums.proofs.Laws.{first-more, first-whole}
+use mathlib.Core.Logic.{⊎-elim}
+use Prim.Native.Nat.{_≤_, _+_, _-_}
 use native.Mathlib.Omega.{arith}
 use borrow.Author.Needs.{needs}
+use Rattle.framesums.specs.Steps.{FirstAt}
+use Rattle.framesums.proofs.Laws.{first-none}
+use Rattle.nearsums.proofs.Laws.{first-counted, first-passed, first-whole}
 use Rattle.nearsums.proofs.inner.count_to.Statement.{statement}
 use Rattle.nearsums.proofs.inner.count_to.Tie as tie
 
@@ -17,23 +16,19 @@ abbrev μ-loop : tie.MeasureT-loop
 μ-loop bins from to x r₀ i₀ r i = to - i
 
 loop-holds : tie.Need-loop-holds Inv-loop μ-loop
-loop-holds c = let s = c .before in (omega arith, s .pre .0, first-none (s .args .bins .now) (s .args .from) (s .args .from) (s .args .x) (λ j k a b d. absurd (omega arith)) refl)
+loop-holds c = (omega arith, c .pre .0, first-none (c .args .bins .now) (c .args .from) (c .args .from) (c .args .x) (λ j k a b d. absurd (omega arith)) refl)
 
-mul-below : tie.Need-mul-below Inv-loop μ-loop
-mul-below c = search needs
+mul-if1 : tie.Need-mul-if1 Inv-loop μ-loop
+mul-if1 c = search needs
 
-shared-slice-read-below : tie.Need-shared-slice-read-below Inv-loop μ-loop
-shared-slice-read-below c = search needs
-
-below-requires : tie.Need-below-requires Inv-loop μ-loop
-below-requires c κs = search needs
+shared-slice-read-if1 : tie.Need-shared-slice-read-if1 Inv-loop μ-loop
+shared-slice-read-if1 c = search needs
 
 add-r : tie.Need-add-r Inv-loop μ-loop
 add-r c = let l = c .before .before .before in
-    let s = l .before .before in
+    let s = l .before in
     let before : l .loop .r ≤ l .loop .i = l .loop .inv .2 .before in
-    let m = step-most 1 (c .below .result) (ltb (getD (s .args .bins .now) (l .loop .i) 0) (s .args .x)) (c .below .ensures) in
-    omega (arith, before, m, s .pre .1, s .good)
+    omega (arith, before, s .pre .1, s .good)
 
 add-i : tie.Need-add-i Inv-loop μ-loop
 add-i c = search needs
@@ -43,12 +38,16 @@ loop-less c = search needs
 
 loop-again : tie.Need-loop-again Inv-loop μ-loop
 loop-again c = let l = c .before .before .before in
-    let s = l .before .before in
-    (omega arith, omega arith, first-more (s .args .bins .now) (s .args .from) (s .args .to) (s .args .x) (s .pre .2) (l .loop .i) (l .loop .r) (c .below .result) (omega arith) (l .loop .inv .0) (l .loop .inv .2) (c .below .ensures))
+    let s = l .before in
+    let bins = s .args .bins .now in
+    ⊎-elim
+    (λ a. rw (a .1) (omega arith, omega arith, first-counted bins (s .args .from) (s .args .to) (s .args .x) (s .pre .2) (l .loop .i) (l .loop .r) (omega arith) (l .loop .inv .0) (a .0 .taken) (l .loop .inv .2)))
+    (λ a. rw (a .1) (omega arith, omega arith, first-passed bins (s .args .from) (s .args .to) (s .args .x) (s .pre .2) (l .loop .i) (l .loop .r) (omega arith) (l .loop .inv .0) (a .0 .left) (l .loop .inv .2)))
+    (c .if1 .came)
 
 returns : tie.Need-returns Inv-loop μ-loop
 returns c = let l = c .before in
-    let s = l .before .before in
+    let s = l .before in
     first-whole (s .args .bins .now) (s .args .from) (s .args .to) (s .args .x) (s .pre .2) (l .loop .i) (l .loop .r) (omega arith) (l .loop .inv .2)
 
 pub count-to-spec : {M : Type 1} → statement M
@@ -58,9 +57,8 @@ count-to-spec =
     Inv-loop
     μ-loop
     loop-holds
-    mul-below
-    shared-slice-read-below
-    below-requires
+    mul-if1
+    shared-slice-read-if1
     add-r
     add-i
     loop-less
