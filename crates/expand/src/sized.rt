@@ -40,6 +40,7 @@ fn expand_in_1024(
     let mut turns = [0u32; 1024];
     let mut bases = [0u32; 800];
     let mut found = [0u32; 4096];
+    let mut near = [0u32; 1024];
     expandmany::inner::expand_peaks(
         list,
         n,
@@ -63,6 +64,7 @@ fn expand_in_1024(
         &mut bases,
         &mut found,
         order,
+        &mut near,
     )
 }
 
@@ -95,6 +97,7 @@ fn expand_in_16384(
     let mut turns = [0u32; 16384];
     let mut bases = [0u32; 8480];
     let mut found = [0u32; 65536];
+    let mut near = [0u32; 16384];
     expandmany::inner::expand_peaks(
         list,
         n,
@@ -118,6 +121,7 @@ fn expand_in_16384(
         &mut bases,
         &mut found,
         order,
+        &mut near,
     )
 }
 

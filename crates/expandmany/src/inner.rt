@@ -46,10 +46,11 @@ fn expand_at(
     bases: &mut [u32],
     found: &mut [u32],
     order: &mut [u32],
+    near: &mut [u32],
 ) -> usize
     requires { ⌜ Followed (runOf (indexOf (now starts) (now bins) (now offsets) (now scans) (now readings)) (now ids) (now times) scale) e
         × Reachable (runOf (indexOf (now starts) (now bins) (now offsets) (now scans) (now readings)) (now ids) (now times) scale) (now list) i (now weights) at len first total (length (now out))
-        × Scratch (length (now ids)) (length (now raw)) (length (now smooth)) (length (now turns)) (length (now bases)) (length (now found)) (length (now order)) ⌝ }
+        × Scratch (length (now ids)) (length (now raw)) (length (now smooth)) (length (now turns)) (length (now bases)) (length (now found)) (length (now order)) (length (now near)) ⌝ }
     ensures { λ r. ⌜ PutBehind (expanded (runOf (indexOf (now (starts .entry)) (now (bins .entry)) (now (offsets .entry)) (now (scans .entry)) (now (readings .entry))) (now (ids .entry)) (now (times .entry)) scale) e (take len (drop at (now (weights .entry)))) (peakAt (now (list .entry)) i) first) (now (out .entry)) total r (now (out .exit)) ⌝ }
 {
     let p = record::inner::peak_at(list, i);
@@ -75,12 +76,13 @@ fn expand_at(
         bases,
         found,
         order,
+        near,
     )
 }
 
 // Writes the retention peaks of the first n mobility peaks of a list to the front of `out`, one peak's after another's, with
 // identities that run on from `first`, and how many each has to the front of `counts`. Answers how many there are in all. The last
-// six lists are scratch.
+// seven lists are scratch.
 pub fn expand_peaks(
     list: &[u32],
     n: usize,
@@ -104,9 +106,10 @@ pub fn expand_peaks(
     bases: &mut [u32],
     found: &mut [u32],
     order: &mut [u32],
+    near: &mut [u32],
 ) -> usize
     requires { ⌜ Ready (manyOf (runOf (indexOf (now starts) (now bins) (now offsets) (now scans) (now readings)) (now ids) (now times) scale) e (now list) (now weights) (now lengths) first) n (length (now out)) (length (now counts))
-        × Scratch (length (now ids)) (length (now raw)) (length (now smooth)) (length (now turns)) (length (now bases)) (length (now found)) (length (now order)) ⌝ }
+        × Scratch (length (now ids)) (length (now raw)) (length (now smooth)) (length (now turns)) (length (now bases)) (length (now found)) (length (now order)) (length (now near)) ⌝ }
     ensures { λ r. ⌜ Done (manyOf (runOf (indexOf (now (starts .entry)) (now (bins .entry)) (now (offsets .entry)) (now (scans .entry)) (now (readings .entry))) (now (ids .entry)) (now (times .entry)) scale) e (now (list .entry)) (now (weights .entry)) (now (lengths .entry)) first) n (now (out .entry)) (now (counts .entry)) r (now (out .exit)) (now (counts .exit)) ⌝ }
 {
     let mut total = 0usize;
@@ -139,6 +142,7 @@ pub fn expand_peaks(
             bases,
             found,
             order,
+            near,
         );
         counts[i] = r as u32;
         total += r;

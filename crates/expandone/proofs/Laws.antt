@@ -71,8 +71,8 @@ trace-front run e p lo hi n was is k h =
     ap (take n) h ∙ take-at x (drop (hi + 1 - lo) was) n (trace-length run e p lo hi ∙ sym k)
 
 -- what following it asks
-pub followable : {first out raw smooth turns bases found order : ℕ} (run : Run) (e : RtExpandParams) (ws : List Float) (p : ImPeak1D) (lo hi : ℕ) (x t : List Float)
-    → Followed run e → Expandable run ws p first out → Scratch (length (run .ids)) raw smooth turns bases found order → AllFit (run .index .readings) → AllFit ws
+pub followable : {first out raw smooth turns bases found order near : ℕ} (run : Run) (e : RtExpandParams) (ws : List Float) (p : ImPeak1D) (lo hi : ℕ) (x t : List Float)
+    → Followed run e → Expandable run ws p first out → Scratch (length (run .ids)) raw smooth turns bases found order near → AllFit (run .index .readings) → AllFit ws
     → lo ≤ hi → hi < length (run .ids) → x ≡ traceOver (run .index) (run .scale) (e .«bin_pad») p lo hi → t ≡ cut lo hi (run .times)
     → Followable x t ws lo (run .ids) (run .times) first out smooth turns bases found order
 followable run e ws p lo hi x t f s room fit wfit h k is cuts =

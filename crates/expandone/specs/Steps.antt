@@ -38,12 +38,13 @@ pub record Followed (run : Run) (e : RtExpandParams) : Type 0 where
   pub short : length (run .ids) ≤ exactIndex
   pub rise : rising (run .ids) ≡ true
 
--- Scratch for a run of n frames: a float a frame in the first two lists, and what the search of such a trace needs.
-pub record Scratch (n raw smooth turns bases found order : ℕ) : Type 0 where
+-- Scratch for a run of n frames: a float a frame in the first two lists, what the search of such a trace needs, and a place a frame.
+pub record Scratch (n raw smooth turns bases found order near : ℕ) : Type 0 where
   pub raw-long : n ≤ raw
   pub smooth-long : n ≤ smooth
   pub search : Room n turns bases found
   pub order-long : mostPeaks n ≤ order
+  pub near-long : n ≤ near
 
 -- A mobility peak that can be expanded over such a run, with weights, a first identity, and `out` words for its retention peaks.
 pub record Expandable (run : Run) (ws : List Float) (p : ImPeak1D) (first out : ℕ) : Type 0 where

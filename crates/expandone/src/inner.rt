@@ -34,10 +34,11 @@ fn expand_over(
     bases: &mut [u32],
     found: &mut [u32],
     order: &mut [u32],
+    near: &mut [u32],
 ) -> usize
     requires { ⌜ Followed (runOf (indexOf (now starts) (now bins) (now offsets) (now scans) (now readings)) (now ids) (now times) scale) e
         × Expandable (runOf (indexOf (now starts) (now bins) (now offsets) (now scans) (now readings)) (now ids) (now times) scale) (now weights) p first (length (now out))
-        × Scratch (length (now ids)) (length (now raw)) (length (now smooth)) (length (now turns)) (length (now bases)) (length (now found)) (length (now order))
+        × Scratch (length (now ids)) (length (now raw)) (length (now smooth)) (length (now turns)) (length (now bases)) (length (now found)) (length (now order)) (length (now near))
         × (lo ≤ hi) × (hi < length (now ids)) ⌝ }
     ensures { λ r. ⌜ Put (peaksOver (runOf (indexOf (now (starts .entry)) (now (bins .entry)) (now (offsets .entry)) (now (scans .entry)) (now (readings .entry))) (now (ids .entry)) (now (times .entry)) scale) e (now (weights .entry)) p lo hi first) (now (out .entry)) r (now (out .exit)) ⌝ }
 {
@@ -54,6 +55,7 @@ fn expand_over(
         p,
         lo,
         hi,
+        near,
         raw,
     );
     let end = hi + 1;
@@ -98,10 +100,11 @@ pub fn expand_peak(
     bases: &mut [u32],
     found: &mut [u32],
     order: &mut [u32],
+    near: &mut [u32],
 ) -> usize
     requires { ⌜ Followed (runOf (indexOf (now starts) (now bins) (now offsets) (now scans) (now readings)) (now ids) (now times) scale) e
         × Expandable (runOf (indexOf (now starts) (now bins) (now offsets) (now scans) (now readings)) (now ids) (now times) scale) (now weights) p first (length (now out))
-        × Scratch (length (now ids)) (length (now raw)) (length (now smooth)) (length (now turns)) (length (now bases)) (length (now found)) (length (now order)) ⌝ }
+        × Scratch (length (now ids)) (length (now raw)) (length (now smooth)) (length (now turns)) (length (now bases)) (length (now found)) (length (now order)) (length (now near)) ⌝ }
     ensures { λ r. ⌜ Put (expanded (runOf (indexOf (now (starts .entry)) (now (bins .entry)) (now (offsets .entry)) (now (scans .entry)) (now (readings .entry))) (now (ids .entry)) (now (times .entry)) scale) e (now (weights .entry)) p first) (now (out .entry)) r (now (out .exit)) ⌝ }
 {
     let w = rtwindow::inner::padded_window(ids, p.frame_id_lo, p.frame_id_hi, e.rt_pad_frames);
@@ -129,6 +132,7 @@ pub fn expand_peak(
                 bases,
                 found,
                 order,
+                near,
             )
         }
         FrameWindow::NoFrames => 0,

@@ -24,7 +24,8 @@ pub enum Way {
     Smoothed,
 }
 
-// The readings of a peak's bins and scans, summed for each of the frames lo to hi.
+// The readings of a peak's bins and scans, summed for each of the frames lo to hi. `near` is scratch, a word a frame of the run: where the
+// search of that frame begins.
 pub fn put_trace(
     starts: &[u32],
     bins: &[u32],
@@ -36,14 +37,26 @@ pub fn put_trace(
     p: ImPeak1D,
     lo: usize,
     hi: usize,
+    near: &mut [u32],
     out: &mut [f32],
 )
-    requires { ⌜ Checked (indexOf (now starts) (now bins) (now offsets) (now scans) (now readings)) × Sound scale × (pad ≤ maxCount) × (lo ≤ hi) × (hi + 1 < length (now starts)) × (hi + 1 - lo ≤ length (now out)) ⌝ }
+    requires { ⌜ Checked (indexOf (now starts) (now bins) (now offsets) (now scans) (now readings)) × Sound scale × (pad ≤ maxCount) × (lo ≤ hi) × (hi + 1 < length (now starts)) × (hi + 1 - lo ≤ length (now out)) × (hi < length (now near)) ⌝ }
     ensures { λ _. ⌜ now (out .exit) ≡ traceOver (indexOf (now (starts .entry)) (now (bins .entry)) (now (offsets .entry)) (now (scans .entry)) (now (readings .entry))) scale pad p lo hi ++ drop (hi + 1 - lo) (now (out .entry)) ⌝ }
 {
     let w = windows::inner::peak_window(scale, pad, p);
     let n = hi - lo + 1;
-    framesums::inner::put_frame_sums(starts, bins, offsets, scans, readings, lo, n, w, out);
+    nearsums::inner::put_frame_sums_near(
+        starts,
+        bins,
+        offsets,
+        scans,
+        readings,
+        lo,
+        n,
+        w,
+        near,
+        out,
+    );
 }
 
 // Whether a value is above 0.

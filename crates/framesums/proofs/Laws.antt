@@ -179,7 +179,7 @@ pub record Halved (bins : List ℕ) (from to x r n : ℕ) : Type 0 where
   pub low : (j : ℕ) → from ≤ j → j < r → getD bins j 0 < x
   pub high : (j : ℕ) → r + n ≤ j → j < to → x ≤ getD bins j 0
 
-rise-le : (bins : List ℕ) (from to j k : ℕ) → Rising bins from to → from ≤ j → j ≤ k → k < to → getD bins j 0 ≤ getD bins k 0
+pub rise-le : (bins : List ℕ) (from to j k : ℕ) → Rising bins from to → from ≤ j → j ≤ k → k < to → getD bins j 0 ≤ getD bins k 0
 rise-le bins from to j k r a b d = go (ltb j k) refl
   where
     go : (t : Bool) → ltb j k ≡ t → getD bins j 0 ≤ getD bins k 0

@@ -23,7 +23,7 @@ pub struct Span {
 }
 
 // 1 where a is below b, and else 0; reckoned, since at a branch on it the search would lose as much time as in all else.
-fn below(a: u32, b: u32) -> usize
+pub fn below(a: u32, b: u32) -> usize
     ensures { λ r. ⌜ r ≡ cond (ltb a b) 1 0 ⌝ }
 {
     1 - ((a as u64 + 4294967296 - b as u64) / 4294967296) as usize
@@ -48,7 +48,7 @@ pub fn first_at(bins: &[u32], from: usize, to: usize, x: u32) -> usize
 }
 
 // The first place whose bin is above x, step by step, since windows are narrow.
-fn first_above(bins: &[u32], from: usize, to: usize, x: u32) -> usize
+pub fn first_above(bins: &[u32], from: usize, to: usize, x: u32) -> usize
     requires { ⌜ (from ≤ to) × (to ≤ length (now bins)) × Rising (now bins) from to ⌝ }
     ensures { λ r. ⌜ FirstAt (now (bins .entry)) from to (x + 1) r ⌝ }
 {
@@ -62,7 +62,7 @@ fn first_above(bins: &[u32], from: usize, to: usize, x: u32) -> usize
     i
 }
 
-fn place_at(list: &[u32], i: usize) -> usize
+pub fn place_at(list: &[u32], i: usize) -> usize
     requires { ⌜ i < length (now list) ⌝ }
     ensures { λ r. ⌜ r ≡ getD (now (list .entry)) i 0 ⌝ }
 {
@@ -132,7 +132,7 @@ fn any_of_eight(scans: &[u32], j: usize, w: Window) -> bool
 }
 
 // The same as point by point; eight points are passed over at a time where none of them lies in the window.
-fn add_points(
+pub fn add_points(
     starts: &[u32],
     bins: &[u32],
     offsets: &[u32],

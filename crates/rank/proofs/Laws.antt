@@ -1,15 +1,15 @@
 -- Laws of counts and ranks, and of the search for an element by halving.
 use mathlib.Core.Path.{_≡_, refl, sym, ap, _∙_, subst}
 use mathlib.Core.Bool.{Bool, true, false, cond, _&&_}
-use mathlib.Core.List.{List, [], _∷_}
+use mathlib.Core.List.{List, [], _∷_, _++_, append-assoc}
 use Prim.Native.Nat.{ℕ, suc, _+_, _≤_, _<_, max}
 use native.Mathlib.Numerals.{add-one}
 use native.Mathlib.Omega.{arith}
 use native.Mathlib.Nat.{le-trans}
 use borrow.Author.Tests.{ltb-true, ltb-false, leb-true, leb-false, lt-ltb, le-ltb, le-leb, lt-leb}
 use lib.Dec.{ltb, leb}
-use lib.ListN.{length, getD, drop, drop-of-length-le}
-use lib.Seq.{drop-cons}
+use lib.ListN.{length, getD, take, drop, set, drop-of-length-le}
+use lib.Seq.{drop-cons, take-suc, set-at, take-at, take-all, length-take-le}
 use Rattle.refusal.proofs.Bools.{clash}
 use Rattle.rank.specs.Rank.{counted, smaller, atMost, AtRank, firstAt, ranked, highestTo}
 use Rattle.rank.specs.RankLaws.{OneAtRank}
@@ -195,3 +195,21 @@ high-step ws i x h m l e = rw (add-one, drop-cons ws i 0 l, e) (three m (cond (l
 pub high-end : (ws : List ℕ) (i h m : ℕ) → length ws ≤ i → max m (highestTo h (drop i ws)) ≡ m
 unfolding highestTo
 high-end ws i h m l = rw (drop-of-length-le ws {i = i} l) (omega arith)
+
+-- ---- a list of words
+
+-- the patterns p fill a list d from its front
+pub fill-start : (p d : List ℕ) → d ≡ take 0 p ++ drop 0 d
+fill-start p d = refl
+
+pub fill-step : (p d ws : List ℕ) (i v : ℕ) → i < length p → i < length d → v ≡ getD p i 0 → ws ≡ take i p ++ drop i d → set ws i v ≡ take (i + 1) p ++ drop (i + 1) d
+fill-step p d ws i v h k e f =
+    rw (f, e, add-one, drop-cons d i 0 k, take-suc p i 0 h, append-assoc)
+    (set-at (take i p) (getD d i 0) (drop (suc i) d) (getD p i 0) i (length-take-le i p (omega arith)))
+
+pub fill-end : (p d ws : List ℕ) (i n : ℕ) → n ≡ length p → i ≡ n → ws ≡ take i p ++ drop i d → ws ≡ p ++ drop n d
+fill-end p d ws i n e j f = f ∙ rw (j, e, take-all (length p) p (omega arith))
+
+-- so they are its front
+pub filled-front : (p d ws : List ℕ) (n : ℕ) → n ≡ length p → ws ≡ p ++ drop n d → take n ws ≡ p
+filled-front p d ws n e f = rw f (take-at p (drop n d) n (sym e))

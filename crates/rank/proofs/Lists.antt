@@ -89,7 +89,7 @@ module _ (of : Of) (xs : List Float) (i : ℕ) where
   in-steps e h = let n = count-steps xs in let k : i < length (patterns Steps xs) = subst (λ (o : Of). i < length (patterns o xs)) e h in omega arith
 
 -- ---- every element is a number of 32 bits
-to-all : (top : ℕ) (ws : List ℕ) → ((i : ℕ) → i < length ws → getD ws i 0 ≤ top) → atMost top ws ≡ length ws
+pub to-all : (top : ℕ) (ws : List ℕ) → ((i : ℕ) → i < length ws → getD ws i 0 ≤ top) → atMost top ws ≡ length ws
 unfolding counted
 to-all top [] f = refl
 to-all top (w ∷ ws) f = rw (le-leb w top (f 0 (omega arith)), to-all top ws (λ i h. f (suc i) (omega arith))) (omega arith)

@@ -65,6 +65,39 @@ pub fn list_rt_peaks(
     n
 }
 
+// The same with room for a trace of 128 frames, since an array is filled before it is used.
+fn list_in_128(
+    y: &[f32],
+    z: &[f32],
+    t: &[f32],
+    floor: f32,
+    sep: f32,
+    min_width: f32,
+    order: &mut [u32],
+    out: &mut [u32],
+) -> usize
+    requires { ⌜ Checked (now y) (now z) (now t) (length (now order)) (length (now out)) × (length (now y) ≤ 128) ⌝ }
+    ensures count { λ r. ⌜ r ≡ length (rtPeaks floor sep «min_width» (now (y .entry)) (now (z .entry)) (now (t .entry))) ⌝ }
+    ensures front { λ r. ⌜ now (out .exit) ≡ peakWords (rtPeaks floor sep «min_width» (now (y .entry)) (now (z .entry)) (now (t .entry))) ++ drop (r * localSize) (now (out .entry)) ⌝ }
+{
+    let mut turns = [0u32; 128];
+    let mut bases = [0u32; 96];
+    let mut found = [0u32; 512];
+    list_rt_peaks(
+        y,
+        z,
+        t,
+        floor,
+        sep,
+        min_width,
+        &mut turns,
+        &mut bases,
+        &mut found,
+        order,
+        out,
+    )
+}
+
 // The same with room for a trace of 1,024 frames.
 fn list_in_1024(
     y: &[f32],
@@ -83,6 +116,39 @@ fn list_in_1024(
     let mut turns = [0u32; 1024];
     let mut bases = [0u32; 800];
     let mut found = [0u32; 4096];
+    list_rt_peaks(
+        y,
+        z,
+        t,
+        floor,
+        sep,
+        min_width,
+        &mut turns,
+        &mut bases,
+        &mut found,
+        order,
+        out,
+    )
+}
+
+// The same with room for a trace of 4,096 frames.
+fn list_in_4096(
+    y: &[f32],
+    z: &[f32],
+    t: &[f32],
+    floor: f32,
+    sep: f32,
+    min_width: f32,
+    order: &mut [u32],
+    out: &mut [u32],
+) -> usize
+    requires { ⌜ Checked (now y) (now z) (now t) (length (now order)) (length (now out)) × (length (now y) ≤ 4096) ⌝ }
+    ensures count { λ r. ⌜ r ≡ length (rtPeaks floor sep «min_width» (now (y .entry)) (now (z .entry)) (now (t .entry))) ⌝ }
+    ensures front { λ r. ⌜ now (out .exit) ≡ peakWords (rtPeaks floor sep «min_width» (now (y .entry)) (now (z .entry)) (now (t .entry))) ++ drop (r * localSize) (now (out .entry)) ⌝ }
+{
+    let mut turns = [0u32; 4096];
+    let mut bases = [0u32; 2336];
+    let mut found = [0u32; 16384];
     list_rt_peaks(
         y,
         z,
@@ -146,8 +212,14 @@ pub fn find_rt_peaks(
     ensures count { λ r. ⌜ r ≡ length (rtPeaks floor sep «min_width» (now (y .entry)) (now (z .entry)) (now (t .entry))) ⌝ }
     ensures front { λ r. ⌜ now (out .exit) ≡ peakWords (rtPeaks floor sep «min_width» (now (y .entry)) (now (z .entry)) (now (t .entry))) ++ drop (r * localSize) (now (out .entry)) ⌝ }
 {
+    if y.len() <= 128 {
+        return list_in_128(y, z, t, floor, sep, min_width, order, out);
+    }
     if y.len() <= 1024 {
         return list_in_1024(y, z, t, floor, sep, min_width, order, out);
+    }
+    if y.len() <= 4096 {
+        return list_in_4096(y, z, t, floor, sep, min_width, order, out);
     }
     list_in_16384(y, z, t, floor, sep, min_width, order, out)
 }

@@ -16,14 +16,15 @@ all-fit-requires-2 : tie.Need-all-fit-requires-2
 all-fit-requires-2 c κs = search needs
 
 put-trace-requires : tie.Need-put-trace-requires
-put-trace-requires c κs = let s = c .before .before .before .before .before .before .before .before .before .before .before .before .before .before .before .before .before .before in
+put-trace-requires c κs = let s = c .before .before .before .before .before .before .before .before .before .before .before .before .before .before .before .before .before .before .before .before in
     let f = s .pre .0 in
     let frames = f .frames in
     let axis = f .axis in
     let h = s .pre .3 in
     let k = s .pre .4 in
     let room = s .pre .2 .raw-long in
-    (f .index, f .scale, f .pad, h, omega arith, omega arith)
+    let places = s .pre .2 .near-long in
+    (f .index, f .scale, f .pad, h, omega arith, omega arith, omega arith)
 
 add-end : tie.Need-add-end
 add-end c = search needs
@@ -35,8 +36,8 @@ slice-reshare-prefix-follow : tie.Need-slice-reshare-prefix-follow
 slice-reshare-prefix-follow c = search needs
 
 slice-aggregate-follow : tie.Need-slice-aggregate-follow
-slice-aggregate-follow c = let m = c .before .before .before in
-    let g = m .before .before .before .before .before .before .before .before .before .before .before .before .before .before .before .before .before .before .before .args in
+slice-aggregate-follow c = let m = c .before .before .before .before .before in
+    let g = m .before .before .before .before .before .before .before .before .before .before .before .before .before .before .before .before .before .before .before .before .before .args in
     sym (ap length (trace-front (runOf (indexOf (g .starts .now) (g .bins .now) (g .offsets .now) (g .scans .now) (g .readings .now)) (g .ids .now) (g .times .now) (g .scale)) (g .e) (g .p) (g .lo) (g .hi) (g .hi + 1 - g .lo) (g .raw .now) _ refl (m .put-trace .ensures)) ∙ trace-length (runOf (indexOf (g .starts .now) (g .bins .now) (g .offsets .now) (g .scans .now) (g .readings .now)) (g .ids .now) (g .times .now) (g .scale)) (g .e) (g .p) (g .lo) (g .hi))
 
 mul-follow : tie.Need-mul-follow
@@ -52,10 +53,10 @@ part-follow-end : tie.Need-part-follow-end
 part-follow-end c = search needs
 
 follow-requires : tie.Need-follow-requires
-follow-requires c κs = let m = c .before .before .before .before .before .before .before .before .before .before in
-    let s = m .before .before .before .before .before .before .before .before .before .before .before .before .before .before .before .before .before .before .before in
+follow-requires c κs = let m = c .before .before .before .before .before .before .before .before .before .before .before .before in
+    let s = m .before .before .before .before .before .before .before .before .before .before .before .before .before .before .before .before .before .before .before .before .before in
     let g = s .args in
-    let a = m .before .before in
+    let a = m .before .before .before in
     followable (runOf (indexOf (g .starts .now) (g .bins .now) (g .offsets .now) (g .scans .now) (g .readings .now)) (g .ids .now) (g .times .now) (g .scale)) (g .e) (g .weights .now) (g .p) (g .lo) (g .hi) _ _ (s .pre .0) (s .pre .1) (s .pre .2) (a .before .all-fit .ensures) (a .all-fit2 .ensures) (s .pre .3) (s .pre .4)
     (trace-front (runOf (indexOf (g .starts .now) (g .bins .now) (g .offsets .now) (g .scans .now) (g .readings .now)) (g .ids .now) (g .times .now) (g .scale)) (g .e) (g .p) (g .lo) (g .hi) (g .hi + 1 - g .lo) (g .raw .now) _ refl (m .put-trace .ensures)) refl
 
@@ -80,10 +81,13 @@ same-length-6 c = search needs
 same-length-7 : tie.Need-same-length-7
 same-length-7 c = search needs
 
+same-length-8 : tie.Need-same-length-8
+same-length-8 c = search needs
+
 returns : tie.Need-returns
 returns c = let w = c .before .before .before .before .before .before .before .before .before .before .before .before in
-    let m = w .before .before .before .before .before .before .before .before .before .before .before in
-    let g = m .before .before .before .before .before .before .before .before .before .before .before .before .before .before .before .before .before .before .before .args in
+    let m = w .before .before .before .before .before .before .before .before .before .before .before .before .before in
+    let g = m .before .before .before .before .before .before .before .before .before .before .before .before .before .before .before .before .before .before .before .before .before .args in
     put-over (runOf (indexOf (g .starts .now) (g .bins .now) (g .offsets .now) (g .scans .now) (g .readings .now)) (g .ids .now) (g .times .now) (g .scale)) (g .e) (g .weights .now) (g .p) (g .lo) (g .hi) (g .first) _ _
     (trace-front (runOf (indexOf (g .starts .now) (g .bins .now) (g .offsets .now) (g .scans .now) (g .readings .now)) (g .ids .now) (g .times .now) (g .scale)) (g .e) (g .p) (g .lo) (g .hi) (g .hi + 1 - g .lo) (g .raw .now) _ refl (m .put-trace .ensures)) refl (w .follow .ensures)
 
@@ -110,4 +114,5 @@ expand-over-spec =
     same-length-5
     same-length-6
     same-length-7
+    same-length-8
     returns)

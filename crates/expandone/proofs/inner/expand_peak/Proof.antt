@@ -15,9 +15,9 @@ enum-known-w : tie.Need-enum-known-w
 enum-known-w c = search needs
 
 expand-over-requires : tie.Need-expand-over-requires
-expand-over-requires c κs = let m = c .before .before .before .before .before .before .before .before in
+expand-over-requires c κs = let m = c .before .before .before .before .before .before .before .before .before in
     let w = m .before .before in
-    let s = w .before .before .before .before .before .before .before .before .before .before .before .before .before .before .before .before in
+    let s = w .before .before .before .before .before .before .before .before .before .before .before .before .before .before .before .before .before in
     let g = s .args in
     let i = window-in (g .ids .now) (g .p .«frame_id_lo») (g .p .«frame_id_hi») (g .e .«rt_pad_frames») _ _ (s .pre .1 .numbers) (sym (m .w .given .1) ∙ w .padded-window .ensures) in
     (s .pre .0, s .pre .1, s .pre .2, i .0, i .1)
@@ -46,16 +46,19 @@ same-length-6 c = search needs
 same-length-7 : tie.Need-same-length-7
 same-length-7 c = search needs
 
+same-length-8 : tie.Need-same-length-8
+same-length-8 c = search needs
+
 returns : tie.Need-returns
-returns c = let r = c .before .before .before .before .before .before .before .before .before .before .before .before .before .before in
-    let m = r .before .before .before .before .before .before .before .before .before in
+returns c = let r = c .before .before .before .before .before .before .before .before .before .before .before .before .before .before .before .before in
+    let m = r .before .before .before .before .before .before .before .before .before .before in
     let w = m .before .before in
-    let g = w .before .before .before .before .before .before .before .before .before .before .before .before .before .before .before .before .args in
+    let g = w .before .before .before .before .before .before .before .before .before .before .before .before .before .before .before .before .before .args in
     put-frames (runOf (indexOf (g .starts .now) (g .bins .now) (g .offsets .now) (g .scans .now) (g .readings .now)) (g .ids .now) (g .times .now) (g .scale)) (g .e) (g .weights .now) (g .p) (g .first) _ _ (sym (m .w .given .1) ∙ w .padded-window .ensures) (r .expand-over .ensures)
 
 returns-2 : tie.Need-returns-2
 returns-2 c = let w = c .before .before in
-    let g = w .before .before .before .before .before .before .before .before .before .before .before .before .before .before .before .before .args in
+    let g = w .before .before .before .before .before .before .before .before .before .before .before .before .before .before .before .before .before .args in
     put-no-frames (runOf (indexOf (g .starts .now) (g .bins .now) (g .offsets .now) (g .scans .now) (g .readings .now)) (g .ids .now) (g .times .now) (g .scale)) (g .e) (g .weights .now) (g .p) (g .first) (g .out .now) (sym (c .enum-told .given .1) ∙ w .padded-window .ensures)
 
 pub expand-peak-spec : {M : Type 1} → statement M
@@ -73,5 +76,6 @@ expand-peak-spec =
     same-length-5
     same-length-6
     same-length-7
+    same-length-8
     returns
     returns-2)

@@ -1,0 +1,2 @@
+-- What the proofs of `nearsums` cite.
+pub mod Laws
