@@ -107,7 +107,7 @@ fn comma_at(line: &[u8]) -> usize
 }
 
 // The number of a field of 1 to 8 digits, to a limit.
-fn number(field: &[u8], limit: u32) -> NumberText
+pub fn number(field: &[u8], limit: u32) -> NumberText
     ensures { λ r. ⌜ r ≡ numberText limit (now (field .entry)) ⌝ }
 {
     if field.len() == 0 {

@@ -1,0 +1,219 @@
+// Why a line is refused, for a word on standard error. What is printed is decided by `table` alone: nothing here changes it.
+use table::NumberText;
+use table::Progress;
+use table::RowsSoFar;
+ghost use Prim.Native.Nat.{_≤_, _<_};
+ghost use lib.ListN.{length};
+
+// What is wrong with a line.
+pub enum What {
+    Nothing,
+    NoLine,
+    NoEnd,
+    BareLf,
+    Blank,
+    OtherByte,
+    EmptyField,
+    Digits,
+    TooHigh,
+    NotThree,
+    ManyFields,
+    OtherCount,
+    ManyRows,
+}
+
+// What is wrong with a line, if anything, and where: in which field (or with how many of them) and at which column, both counted from 1,
+// and by which byte.
+pub struct Fault {
+    pub bad: bool,
+    pub what: What,
+    pub field: usize,
+    pub column: usize,
+    pub byte: u8,
+}
+
+// The bytes after which a line without an end is refused.
+pub const NO_END: usize = 65536;
+
+fn none(field: usize) -> Fault {
+    Fault {
+        bad: false,
+        what: What::Nothing,
+        field,
+        column: 0,
+        byte: 0,
+    }
+}
+
+fn some(what: What, field: usize, column: usize, byte: u8) -> Fault {
+    Fault {
+        bad: true,
+        what,
+        field,
+        column,
+        byte,
+    }
+}
+
+// The place of the first comma from a place on, or the length.
+fn comma_from(line: &[u8], from: usize) -> usize
+    requires { ⌜ from ≤ length (now line) ⌝ }
+    ensures { λ r. ⌜ (from ≤ r) × (r ≤ length (now (line .entry))) ⌝ }
+{
+    let mut i = from;
+    while i < line.len() {
+        if line[i] == 44 {
+            return i;
+        }
+        i += 1;
+    }
+    i
+}
+
+// The place of the first byte from a place to another that is no digit, or the second place.
+fn other_from(line: &[u8], from: usize, to: usize) -> usize
+    requires { ⌜ (from ≤ to) × (to ≤ length (now line)) ⌝ }
+    ensures { λ r. ⌜ r ≤ to ⌝ }
+{
+    let mut i = from;
+    while i < to {
+        let b = line[i];
+        if (b < 48) | (57 < b) {
+            return i;
+        }
+        i += 1;
+    }
+    i
+}
+
+// The highest number of a field: that of a reading or of the floor, or that of least distance and least width.
+pub fn limit_of(first: bool, field: usize) -> u32 {
+    if first & (1 < field) {
+        return limits::MAX_COUNT;
+    }
+    table::MAX_NUMBER
+}
+
+// What is wrong with the field between two places.
+fn field_fault(line: &[u8], from: usize, to: usize, first: bool, field: usize) -> Fault
+    requires { ⌜ (from ≤ to) × (to ≤ length (now line)) ⌝ }
+{
+    if from == to {
+        return some(What::EmptyField, field, from + 1, 0);
+    }
+    let i = other_from(line, from, to);
+    if i < to {
+        return some(What::OtherByte, field, i + 1, line[i]);
+    }
+    if 8 < to - from {
+        return some(What::Digits, field, from + 1, 0);
+    }
+    let number = table::number(&line[from..to], limit_of(first, field));
+    match number {
+        NumberText::Number(_) => none(field),
+        NumberText::Bad => some(What::TooHigh, field, from + 1, 0),
+    }
+}
+
+// What is wrong with the first bad field of a line, or how many fields it has.
+fn fields_fault(line: &[u8], first: bool) -> Fault {
+    let mut from = 0usize;
+    let mut field = 0usize;
+    loop {
+        let to = comma_from(line, from);
+        field += 1;
+        let f = field_fault(line, from, to, first, field);
+        if f.bad {
+            return f;
+        }
+        if to == line.len() {
+            return none(field);
+        }
+        from = to + 1;
+    }
+}
+
+fn params_fault(line: &[u8]) -> Fault {
+    let f = fields_fault(line, true);
+    if f.bad {
+        return f;
+    }
+    if f.field == 3 {
+        return f;
+    }
+    some(What::NotThree, f.field, 1, 0)
+}
+
+fn row_fault(s: RowsSoFar, line: &[u8]) -> Fault {
+    let f = fields_fault(line, false);
+    if f.bad {
+        return f;
+    }
+    if table::MAX_FIELDS < f.field {
+        return some(What::ManyFields, f.field, 1, 0);
+    }
+    if (s.count != 0) & (f.field != s.count) {
+        return some(What::OtherCount, f.field, 1, 0);
+    }
+    if limits::LAST_ROW < s.rows {
+        return some(What::ManyRows, f.field, 1, 0);
+    }
+    f
+}
+
+// What is wrong with a line, given without its CR LF.
+fn line_fault(s: Progress, line: &[u8]) -> Fault {
+    if line.len() == 0 {
+        return some(What::Blank, 0, 1, 0);
+    }
+    match s {
+        Progress::Start => params_fault(line),
+        Progress::Rows(t) => row_fault(t, line),
+    }
+}
+
+// The place behind the last LF before a place, or 0.
+fn line_start(bytes: &[u8], end: usize) -> usize
+    requires { ⌜ end ≤ length (now bytes) ⌝ }
+    ensures { λ r. ⌜ r ≤ end ⌝ }
+{
+    let mut i = end;
+    while i > 0 {
+        if bytes[i - 1] == 10 {
+            return i;
+        }
+        i -= 1;
+    }
+    i
+}
+
+// What is wrong with a line that an LF ends, given with it.
+fn ended_fault(s: Progress, line: &[u8]) -> Fault
+    requires { ⌜ 0 < length (now line) ⌝ }
+{
+    let n = line.len();
+    if n == 1 {
+        return some(What::BareLf, 0, 1, 0);
+    }
+    if line[n - 2] == 13 {
+        return line_fault(s, &line[..n - 2]);
+    }
+    some(What::BareLf, 0, n, 0)
+}
+
+// What is wrong with the last line of some bytes, where s has been accepted before it.
+pub fn last_fault(s: Progress, bytes: &[u8]) -> Fault {
+    let n = bytes.len();
+    if n == 0 {
+        return some(What::NoLine, 0, 1, 0);
+    }
+    if bytes[n - 1] == 10 {
+        let start = line_start(bytes, n - 1);
+        return ended_fault(s, &bytes[start..]);
+    }
+    let from = line_start(bytes, n);
+    if NO_END <= n - from {
+        return some(What::NoEnd, 0, 1, 0);
+    }
+    line_fault(s, &bytes[from..])
+}
