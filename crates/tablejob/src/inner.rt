@@ -112,12 +112,15 @@ fn lines(j: Job, buf: &[u8], row: &mut [f32], out: &mut [u8]) -> Job
     }
 }
 
-// Moves the bytes from a place on to the front, and answers how many there are.
+// Moves the bytes from a place on to the front, unless they stand there, and answers how many there are.
 fn to_front(buf: &mut [u8], from: usize, have: usize) -> usize
     requires { ⌜ (from ≤ have) × (have ≤ length (now buf)) ⌝ }
     ensures { λ r. ⌜ r ≡ have - from ⌝ }
     ensures { λ r. ⌜ take r (now (buf .exit)) ≡ take (have - from) (drop from (now (buf .entry))) ⌝ }
 {
+    if from == 0 {
+        return have;
+    }
     let left = have - from;
     for i in 0..left {
         buf[i] = buf[from + i];

@@ -13,6 +13,12 @@ Inv-loop buf₀ from have left i₀ buf i = (i ≤ left) × (left ≡ have - fro
 abbrev μ-loop : tie.MeasureT-loop
 μ-loop buf₀ from have left i₀ buf i = left - i
 
+returns : tie.Need-returns Inv-loop μ-loop
+returns c =
+    let s = c .before in
+    let e : s .args .have ≡ s .args .have - s .args .from = omega (arith, c .if1 .taken) in
+    (e, rw (← e, c .if1 .taken))
+
 sub-left : tie.Need-sub-left Inv-loop μ-loop
 sub-left c = search needs
 
@@ -37,16 +43,16 @@ loop-less c = search needs
 loop-again : tie.Need-loop-again Inv-loop μ-loop
 loop-again c =
     let l = c .before .before .loop in
-    let s = c .before .before .before in
+    let s = c .before .before .before .before in
     (omega arith, refl, simp length-set (l .inv .2), moved-more (s .args .buf .now) (s .args .from) (l .buf) (l .i) (l .inv .3) (omega (arith, l .inv .2, s .pre .1)))
 
 same-length : tie.Need-same-length Inv-loop μ-loop
 same-length c = search needs
 
-returns : tie.Need-returns Inv-loop μ-loop
-returns c =
+returns-2 : tie.Need-returns-2 Inv-loop μ-loop
+returns-2 c =
     let l = c .before .loop in
-    let s = c .before .before in
+    let s = c .before .before .before in
     let e : l .i ≡ s .args .have - s .args .from = omega arith in
     (refl, rw (← e) (moved-all (s .args .buf .now) (s .args .from) (l .buf) (l .i) (l .inv .3) (omega (arith, s .pre .0, s .pre .1))))
 
@@ -56,6 +62,7 @@ to-front-spec =
     (tie.spec
     Inv-loop
     μ-loop
+    returns
     sub-left
     loop-holds
     add-buf
@@ -65,4 +72,4 @@ to-front-spec =
     loop-less
     loop-again
     same-length
-    returns)
+    returns-2)
