@@ -1,14 +1,12 @@
 -- Laws of the text of a line.
 use mathlib.Core.Path.{_≡_, refl, sym, ap, _∙_}
 use mathlib.Core.Bool.{Bool, true, false, cond}
-use mathlib.Core.List.{List, [], _∷_, _++_, append-nil}
-use Prim.Native.Nat.{ℕ, zero, suc, _≤_, _<_, _+_, _-_}
+use mathlib.Core.List.{List, _++_, append-nil}
+use Prim.Native.Nat.{ℕ, _≤_, _+_, _-_}
 use native.Mathlib.Omega.{arith}
-use native.Mathlib.Numerals.{add-one}
-use borrow.Author.Tests.{leb-true, leb-false}
-use lib.Dec.{leb}
-use lib.ListN.{length, take, drop, set, length-append, length-map, length-drop, drop-of-length-le}
-use lib.Seq.{take-all, take-append-le, take-at, length-take-le}
+use borrow.Author.Tests.{leb-true}
+use lib.ListN.{length, take, drop, length-append, length-map, length-drop}
+use lib.Seq.{take-at}
 use lib.Ieee.{Float}
 use Rattle.numeric.specs.Arith.{indexF}
 use Rattle.numeric.specs.Numeric.{allInRange}
@@ -20,7 +18,7 @@ use Rattle.table.specs.declared.RowText.{RowText}
 use Rattle.table.specs.Text.{fields, value, allNumbers, readings, isRow, rowText, paramsOf}
 use Rattle.table.specs.Print.{refusal}
 use Rattle.table.specs.Table.{verdict, isNext, counted, atLine, printedFrom}
-use Rattle.table.proofs.Laws.{push, row-counted, row-text, never-row}
+use Rattle.table.proofs.Laws.{row-counted, row-text, never-row}
 use Rattle.table.proofs.Readings.{readings-range}
 use Rattle.peaklines.specs.TableText.{lineText, textOf, peaksText, Sound, behindLine, LineByLine}
 

@@ -1,14 +1,13 @@
 -- Laws of text that is put behind other text, of bytes that move to the front of a buffer, and of how the table stands.
 use mathlib.Core.Path.{_≡_, refl, sym, _∙_, ap, subst}
-use mathlib.Core.Bool.{Bool, true, false, cond}
+use mathlib.Core.Bool.{true, false, cond}
 use mathlib.Core.List.{List, [], _∷_, _++_, append-assoc, append-nil}
-use Prim.Native.Nat.{ℕ, zero, suc, _≤_, _<_, _+_, _-_}
+use Prim.Native.Nat.{ℕ, _≤_, _<_, _+_, _-_}
 use native.Mathlib.Numerals.{add-one}
 use native.Mathlib.Omega.{arith}
-use lib.ListN.{length, getD, take, drop, set, length-append, length-drop, length-take, take-append-drop}
+use lib.ListN.{length, getD, take, drop, set, length-append, length-drop, take-append-drop}
 use lib.Seq.{drop-drop, take-suc, take-at, take-add, take-take, take-all, take-append-le, drop-at, getD-append-add, getD-drop, length-take-le}
 use borrow.Rule.Slice.PartMut.{putMid}
-use Rattle.table.specs.declared.Progress.{Progress}
 use Rattle.table.specs.Sizes.{lineRoom}
 use Rattle.table.specs.Print.{putAt}
 use Rattle.table.specs.Lines.{noLf}

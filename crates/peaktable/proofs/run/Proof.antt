@@ -1,30 +1,15 @@
-use mathlib.Core.Path.{_≡_, refl, sym, _∙_, ap, subst}
-use mathlib.Core.Bool.{Bool, true, false, cond}
-use mathlib.Core.List.{List, [], _∷_, _++_}
-use mathlib.Core.Logic.{⊎-elim}
-use Prim.Native.Nat.{ℕ, zero, suc, _≤_, _<_, _-_, _+_, _*_}
+use mathlib.Core.Path.{_≡_, refl, _∙_}
+use mathlib.Core.Bool.{true}
+use mathlib.Core.List.{List, []}
+use Prim.Native.Nat.{ℕ, _-_}
 use native.Mathlib.Omega.{arith}
 use borrow.Author.Needs.{needs}
-use lib.Dec.{T, ltb, leb, eqb}
-use lib.ListN.{length, drop, take}
+use lib.ListN.{length}
 use Rattle.tablejob.specs.Stands.{Within, Ready, Stands}
 use Rattle.tablejob.proofs.Laws.{stands-first, stands-read, stands-written, ends-refused, within-first, within-written, within-read, ready-read, stands-end}
 use borrow.Author.Tests.{not-true, not-false}
-use lib.Ieee.{Float, nan, binary32, lt}
 use Rattle.peaktable.proofs.run.Statement.{statement}
 use Rattle.peaktable.proofs.run.Tie as tie
-use Rattle.peaktable.proofs.run.Reads as reads
-use Rattle.peaktable.proofs.run.Lts as lts
-use Rattle.peaktable.proofs.finish.Reads as finish-reads
-use Rattle.peaktable.proofs.give_up.Reads as give-up-reads
-use Rattle.peaktable.proofs.more_bytes.Reads as more-bytes-reads
-use Rattle.peaktable.proofs.say.cannot_read.Reads as cannot-read-reads
-use Rattle.peaktable.proofs.written.Reads as written-reads
-use Rattle.tablejob.proofs.inner.ended.Reads as ended-reads
-use Rattle.tablejob.proofs.inner.handed_over.Reads as handed-over-reads
-use Rattle.tablejob.proofs.inner.start.Reads as start-reads
-use Rattle.tablejob.proofs.inner.with_bytes.Reads as with-bytes-reads
-use Rattle.tablejob.proofs.inner.work.Reads as work-reads
 
 abbrev Inv-loop : tie.InvT-loop
 Inv-loop buf₀ row₀ out₀ job₀ turns₀ buf row out job turns =
@@ -34,28 +19,23 @@ Inv-loop buf₀ row₀ out₀ job₀ turns₀ buf row out job turns =
 abbrev μ-loop : tie.MeasureT-loop
 μ-loop buf₀ row₀ out₀ job₀ turns₀ buf row out job turns = turns
 
--- src/main.rt:83:9
 start-requires : tie.Need-start-requires Inv-loop μ-loop
 start-requires c κs = search needs
 
--- src/main.rt:85:5
 loop-holds : tie.Need-loop-holds Inv-loop μ-loop
 loop-holds c =
     let s = c .before .before .before .before in
     rw (c .start .ensures) (refl, refl, refl, within-first (s .args .buf .now) (length (s .args .out .now)), refl, ([], [], stands-first (s .args .buf .now) (s .args .out .now)))
 
--- src/main.rt:86:9
 sub-turns : tie.Need-sub-turns Inv-loop μ-loop
 sub-turns c = search needs
 
--- src/main.rt:87:9
 work-requires : tie.Need-work-requires Inv-loop μ-loop
 work-requires c κs =
     let l = c .before .before .before .before .loop in
     let s = c .before .before .before .before .before .before .before .before .before in
     (l .inv .3, l .inv .4, omega (arith, l .inv .0, s .pre .0), omega (arith, l .inv .1, s .pre .1))
 
--- src/main.rt:89:13
 finish-requires : tie.Need-finish-requires Inv-loop μ-loop
 finish-requires c κs =
     let l = c .before .before .before .before .before .before .before .before .before .before .before .before .before .before .before .loop in
@@ -64,55 +44,42 @@ finish-requires c κs =
     let k = w .ensures .1 .0 (t .0) (t .1) (t .2) in
     (rw (w .kept .1 .1 .1 .0) (w .ensures .0), (t .0, t .1, ends-refused (t .0) (t .1) (w .last .1 .0) (w .last .1 .1 .1 .0) (w .result) (not-true _ (c .before .before .if1 .taken)) k))
 
--- src/main.rt:90:13
 same-length : tie.Need-same-length Inv-loop μ-loop
 same-length c = search needs
 
--- src/main.rt:90:13
 same-length-2 : tie.Need-same-length-2 Inv-loop μ-loop
 same-length-2 c = search needs
 
--- src/main.rt:90:13
 same-length-3 : tie.Need-same-length-3 Inv-loop μ-loop
 same-length-3 c = search needs
 
--- src/main.rt:90:13
 returns : tie.Need-returns Inv-loop μ-loop
 returns c = search needs
 
--- src/main.rt:92:12
 sub-if2 : tie.Need-sub-if2 Inv-loop μ-loop
 sub-if2 c = search needs
 
--- src/main.rt:93:17
 written-requires : tie.Need-written-requires Inv-loop μ-loop
 written-requires c κs = search needs
 
--- src/main.rt:94:17
 same-length-4 : tie.Need-same-length-4 Inv-loop μ-loop
 same-length-4 c = search needs
 
--- src/main.rt:94:17
 same-length-5 : tie.Need-same-length-5 Inv-loop μ-loop
 same-length-5 c = search needs
 
--- src/main.rt:94:17
 same-length-6 : tie.Need-same-length-6 Inv-loop μ-loop
 same-length-6 c = search needs
 
--- src/main.rt:94:17
 returns-2 : tie.Need-returns-2 Inv-loop μ-loop
 returns-2 c = search needs
 
--- src/main.rt:96:13
 handed-over-requires : tie.Need-handed-over-requires Inv-loop μ-loop
 handed-over-requires c κs = search needs
 
--- src/main.rt:85:5
 loop-less : tie.Need-loop-less Inv-loop μ-loop
 loop-less c = search needs
 
--- src/main.rt:85:5
 loop-again : tie.Need-loop-again Inv-loop μ-loop
 loop-again c =
     let w = c .before .before .before .before .before .before .before .before .before .before .before .before .before .before .work in
@@ -130,7 +97,6 @@ loop-again c =
       (t .0, _, stands-written (t .0) (t .1) (w .last .1 .0) (w .last .1 .1 .1 .0) (w .result) on k),
     )
 
--- src/main.rt:98:17
 more-bytes-requires : tie.Need-more-bytes-requires Inv-loop μ-loop
 more-bytes-requires c κs =
     let w = c .before .before .before .before .before .before .before .before .before .before .before .work in
@@ -138,11 +104,9 @@ more-bytes-requires c κs =
     let r = w .ensures .1 .1 on (omega (arith, c .before .if2 .left, w .kept .1 .1 .1 .0, w .ensures .0 .text)) in
     r .more
 
--- src/main.rt:100:29
 enum-known-more : tie.Need-enum-known-more Inv-loop μ-loop
 enum-known-more c = search needs
 
--- src/main.rt:101:21
 with-bytes-requires : tie.Need-with-bytes-requires Inv-loop μ-loop
 with-bytes-requires c κs =
     let m = c .before .before .before .before .before .more-bytes in
@@ -152,11 +116,9 @@ with-bytes-requires c κs =
     let h = rw (c .before .more .given .1) at (m .ensures .1) in
     omega (arith, h, w .kept .1 .0, l .inv .0, s .good .0)
 
--- src/main.rt:85:5
 loop-less-2 : tie.Need-loop-less-2 Inv-loop μ-loop
 loop-less-2 c = search needs
 
--- src/main.rt:85:5
 loop-again-2 : tie.Need-loop-again-2 Inv-loop μ-loop
 loop-again-2 c =
     let m = c .before .before .before .before .before .before .more-bytes in
@@ -179,11 +141,9 @@ loop-again-2 c =
       (_, t .1, stands-read (t .0) (t .1) (w .last .1 .0) (m .last .0) (w .last .1 .1 .1 .0) (w .result) (g .0 .0) (r .front) (m .ensures .0) k),
     )
 
--- src/main.rt:104:55
 enum-told : tie.Need-enum-told Inv-loop μ-loop
 enum-told c = search needs
 
--- src/main.rt:104:21
 ended-requires : tie.Need-ended-requires Inv-loop μ-loop
 ended-requires c κs =
     let m = c .before .before .before .before .before .before .before .more-bytes in
@@ -195,7 +155,6 @@ ended-requires c κs =
     let r′ : Ready (w .last .1 .0) (length (w .last .1 .1 .1 .0)) (w .result) = rw (w .kept .1 .1 .1 .0) r in
     (ready-read (w .last .1 .0) (m .last .0) (length (w .last .1 .1 .1 .0)) (w .result) r′ (m .ensures .0) (m .kept .0), on, omega (arith, w .kept .1 .1 .0, l .inv .1, s .pre .1))
 
--- src/main.rt:105:21
 finish-requires-2 : tie.Need-finish-requires-2 Inv-loop μ-loop
 finish-requires-2 c κs =
     let d = c .before .before .before .before .before .before .ended in
@@ -211,63 +170,48 @@ finish-requires-2 c κs =
     let k′ = stands-end (w .last .1 .0) (m .last .0) (length (w .last .1 .1 .1 .0)) (w .result) r′ (m .ensures .0) (m .kept .0) (t .0) (t .1) (w .last .1 .1 .1 .0) k in
     (rw (d .kept .1 .1 .1 .0) (d .ensures .0), (t .0, t .1, d .ensures .1 (t .0) (t .1) k′))
 
--- src/main.rt:106:21
 same-length-7 : tie.Need-same-length-7 Inv-loop μ-loop
 same-length-7 c = c .before .before .before .before .before .before .before .before .before .before .before .before .before .before .before .more-bytes .kept .0 ∙ c .before .before .before .before .before .before .before .before .before .before .before .before .before .before .before .before .before .before .before .before .before .before .before .before .before .before .before .work .kept .1 .0 ∙ c .before .before .before .before .before .before .before .before .before .before .before .before .before .before .before .before .before .before .before .before .before .before .before .before .before .before .before .before .before .before .before .before .loop .inv .0
 
--- src/main.rt:106:21
 same-length-8 : tie.Need-same-length-8 Inv-loop μ-loop
 same-length-8 c = c .before .before .before .before .before .before .before .ended .kept .1 .1 .0 ∙ c .before .before .before .before .before .before .before .before .before .before .before .before .before .before .before .before .before .before .before .before .before .before .before .before .before .before .before .work .kept .1 .1 .0 ∙ c .before .before .before .before .before .before .before .before .before .before .before .before .before .before .before .before .before .before .before .before .before .before .before .before .before .before .before .before .before .before .before .before .loop .inv .1
 
--- src/main.rt:106:21
 same-length-9 : tie.Need-same-length-9 Inv-loop μ-loop
 same-length-9 c = c .before .before .before .before .before .before .before .ended .kept .1 .1 .1 .0 ∙ c .before .before .before .before .before .before .before .before .before .before .before .before .before .before .before .before .before .before .before .before .before .before .before .before .before .before .before .work .kept .1 .1 .1 .0 ∙ c .before .before .before .before .before .before .before .before .before .before .before .before .before .before .before .before .before .before .before .before .before .before .before .before .before .before .before .before .before .before .before .before .loop .inv .2
 
--- src/main.rt:106:21
 returns-3 : tie.Need-returns-3 Inv-loop μ-loop
 returns-3 c = search needs
 
--- src/main.rt:109:34
 enum-told-2 : tie.Need-enum-told-2 Inv-loop μ-loop
 enum-told-2 c = search needs
 
--- src/main.rt:109:21
 give-up-requires : tie.Need-give-up-requires Inv-loop μ-loop
 give-up-requires c κs = search needs
 
--- src/main.rt:110:21
 same-length-10 : tie.Need-same-length-10 Inv-loop μ-loop
 same-length-10 c = search needs
 
--- src/main.rt:110:21
 same-length-11 : tie.Need-same-length-11 Inv-loop μ-loop
 same-length-11 c = search needs
 
--- src/main.rt:110:21
 same-length-12 : tie.Need-same-length-12 Inv-loop μ-loop
 same-length-12 c = search needs
 
--- src/main.rt:110:21
 returns-4 : tie.Need-returns-4 Inv-loop μ-loop
 returns-4 c = search needs
 
--- src/main.rt:115:5
 cannot-read-requires : tie.Need-cannot-read-requires Inv-loop μ-loop
 cannot-read-requires c κs = search needs
 
--- src/main.rt:80:1
 same-length-13 : tie.Need-same-length-13 Inv-loop μ-loop
 same-length-13 c = search needs
 
--- src/main.rt:80:1
 same-length-14 : tie.Need-same-length-14 Inv-loop μ-loop
 same-length-14 c = search needs
 
--- src/main.rt:80:1
 same-length-15 : tie.Need-same-length-15 Inv-loop μ-loop
 same-length-15 c = search needs
 
--- src/main.rt:80:1
 returns-5 : tie.Need-returns-5 Inv-loop μ-loop
 returns-5 c = search needs
 

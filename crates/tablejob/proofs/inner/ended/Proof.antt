@@ -1,42 +1,28 @@
-use mathlib.Core.Path.{_≡_, refl, sym, _∙_, ap, subst}
-use mathlib.Core.Bool.{Bool, true, false, cond}
-use mathlib.Core.List.{List, [], _∷_, _++_}
-use mathlib.Core.Logic.{⊎-elim}
-use Prim.Native.Nat.{ℕ, zero, suc, _≤_, _<_, _-_, _+_, _*_}
+use mathlib.Core.Path.{sym}
+use Prim.Native.Nat.{_≤_, _-_}
 use native.Mathlib.Omega.{arith}
 use borrow.Author.Needs.{needs}
-use lib.Dec.{T, ltb, leb, eqb}
-use lib.ListN.{length, drop, take, length-drop, length-take}
+use lib.ListN.{length, drop, take, length-drop}
 use lib.Seq.{length-take-le}
 use Rattle.table.specs.Sizes.{lineRoom}
 use Rattle.table.proofs.Laws.{part}
 use Rattle.tabletext.specs.Bytes.{textFrom}
 use Rattle.tablejob.proofs.Laws.{added, ready-line, over-within, over-ends}
-use lib.Ieee.{Float, nan, binary32, lt}
 use Rattle.tablejob.proofs.inner.ended.Statement.{statement}
 use Rattle.tablejob.proofs.inner.ended.Tie as tie
-use Rattle.tablejob.proofs.inner.ended.Reads as reads
-use Rattle.tablejob.proofs.inner.ended.Lts as lts
-use Rattle.tablejob.proofs.inner.over.Reads as over-reads
-use Rattle.tabletext.proofs.inner.put_last.Reads as put-last-reads
 
--- src/inner.rt:182:53
 slice-aggregate-put-last : tie.Need-slice-aggregate-put-last
 slice-aggregate-put-last c = let s = c .before .before .before .before in sym (length-take-le (s .args .j .have) (s .args .buf .now) (omega (arith, s .pre .0 .more)))
 
--- src/inner.rt:182:72
 sub-put-last : tie.Need-sub-put-last
 sub-put-last c = search needs
 
--- src/inner.rt:182:72
 part-put-last-start : tie.Need-part-put-last-start
 part-put-last-start c = search needs
 
--- src/inner.rt:182:72
 part-put-last-end : tie.Need-part-put-last-end
 part-put-last-end c = search needs
 
--- src/inner.rt:182:9
 put-last-requires : tie.Need-put-last-requires
 put-last-requires c κs =
     let s = c .before .before .before .before .before .before in
@@ -44,7 +30,6 @@ put-last-requires c κs =
     let room : lineRoom ≤ length (take (length (s .args .out .now) - w) (drop w (s .args .out .now))) = rw (part (s .args .out .now) w) (simp length-drop (omega (arith, s .pre .0 .text))) in
     (ready-line (s .args .buf .now) (length (s .args .out .now)) (s .args .j) (s .pre .0), s .pre .2, room)
 
--- src/inner.rt:183:5
 over-requires : tie.Need-over-requires
 over-requires c κs =
     let s = c .before .before .before .before .before .before .before .before .before .before .before in
@@ -52,15 +37,12 @@ over-requires c κs =
     let u = rw (part (s .args .out .now) (s .args .j .waiting), length-drop) at (p .ensures .1 .0) in
     omega (arith, u, s .pre .0 .text, s .good .1 .1)
 
--- src/inner.rt:174:1
 same-length : tie.Need-same-length
 same-length c = search needs
 
--- src/inner.rt:174:1
 same-length-2 : tie.Need-same-length-2
 same-length-2 c = search needs
 
--- src/inner.rt:174:1
 returns : tie.Need-returns
 returns c =
     let s = c .before .before .before .before .before .before .before .before .before .before .before .before in

@@ -1,12 +1,9 @@
 use mathlib.Core.Path.{_≡_, refl, sym, _∙_, ap, subst}
-use mathlib.Core.Bool.{Bool, true, false, cond}
-use mathlib.Core.List.{List, [], _∷_, _++_}
-use mathlib.Core.Logic.{⊎-elim}
-use Prim.Native.Nat.{ℕ, zero, suc, _≤_, _<_, _-_, _+_, _*_}
+use mathlib.Core.List.{List, _++_}
+use Prim.Native.Nat.{ℕ, _≤_, _<_, _-_, _+_}
 use native.Mathlib.Omega.{arith}
 use borrow.Author.Needs.{needs}
-use lib.Dec.{T, ltb, leb, eqb}
-use lib.ListN.{length, drop, take}
+use lib.ListN.{length}
 use lib.Seq.{take-all}
 use borrow.Author.Tests.{not-true, not-false}
 use Rattle.refusal.proofs.Bools.{clash}
@@ -16,64 +13,46 @@ use Rattle.tabletext.specs.Bytes.{textFrom}
 use Rattle.tablejob.specs.declared.inner.Job.{Job}
 use Rattle.tablejob.specs.Stands.{held, atFront, over, Added}
 use Rattle.tablejob.proofs.Laws.{front-held, front-stands, front-within, full-within, full-stands, full-off}
-use lib.Ieee.{Float, nan, binary32, lt}
 use Rattle.tablejob.proofs.inner.work.Statement.{statement}
 use Rattle.tablejob.proofs.inner.work.Tie as tie
-use Rattle.tablejob.proofs.inner.work.Reads as reads
-use Rattle.tablejob.proofs.inner.work.Lts as lts
-use Rattle.tablejob.proofs.inner.at_front.Reads as at-front-reads
-use Rattle.tablejob.proofs.inner.lines.Reads as lines-reads
-use Rattle.tablejob.proofs.inner.overlong.Reads as overlong-reads
 
--- src/inner.rt:159:9
 lines-requires : tie.Need-lines-requires
 lines-requires c κs = search needs
 
--- src/inner.rt:161:9
 same-length : tie.Need-same-length
 same-length c = search needs
 
--- src/inner.rt:161:9
 same-length-2 : tie.Need-same-length-2
 same-length-2 c = search needs
 
--- src/inner.rt:161:9
 same-length-3 : tie.Need-same-length-3
 same-length-3 c = search needs
 
--- src/inner.rt:161:9
 returns : tie.Need-returns
 returns c =
     let l = c .before .before .before .before .before .before .lines in
     (l .ensures .0, (l .ensures .1 .0, λ on room. clash (l .result .«goes_on») on (not-true _ (c .if1 .taken))))
 
--- src/inner.rt:163:8
 sub-if2 : tie.Need-sub-if2
 sub-if2 c = search needs
 
--- src/inner.rt:164:9
 same-length-4 : tie.Need-same-length-4
 same-length-4 c = search needs
 
--- src/inner.rt:164:9
 same-length-5 : tie.Need-same-length-5
 same-length-5 c = search needs
 
--- src/inner.rt:164:9
 same-length-6 : tie.Need-same-length-6
 same-length-6 c = search needs
 
--- src/inner.rt:164:9
 returns-2 : tie.Need-returns-2
 returns-2 c =
     let l = c .before .before .before .before .before .before .before .before .lines in
     (l .ensures .0, (l .ensures .1 .0, λ on room. absurd (omega (arith, c .if2 .taken, room, l .kept .1 .1 .1 .0, l .ensures .0 .text))))
 
--- src/inner.rt:166:9
 at-front-requires : tie.Need-at-front-requires
 at-front-requires c κs = search needs
 
--- src/inner.rt:168:9
 overlong-requires : tie.Need-overlong-requires
 overlong-requires c κs =
     let s = c .before .before .before .before .before .before .before .before .before .before .before .before .before .before .before .before .before .before .before .before .before .before .before in
@@ -86,19 +65,15 @@ overlong-requires c κs =
     let whole : a .last .1 .0 ≡ held (s .args .buf .now) t = sym (take-all (t .have - t .from) (a .last .1 .0) (omega arith)) ∙ a .ensures .1 in
     (ap noLf whole ∙ l .ensures .1 .1 on room, omega (arith, a .kept .1 .0, s .pre .2), omega (arith, room, l .kept .1 .1 .1 .0, ap (λ (f : Job). f .waiting) (a .ensures .0)))
 
--- src/inner.rt:168:9
 same-length-7 : tie.Need-same-length-7
 same-length-7 c = search needs
 
--- src/inner.rt:168:9
 same-length-8 : tie.Need-same-length-8
 same-length-8 c = search needs
 
--- src/inner.rt:168:9
 same-length-9 : tie.Need-same-length-9
 same-length-9 c = search needs
 
--- src/inner.rt:168:9
 returns-3 : tie.Need-returns-3
 returns-3 c =
     let s = c .before .before .before .before .before .before .before .before .before .before .before .before .before .before .before .before .before .before .before .before .before .before .before .before .before .before in
@@ -122,19 +97,15 @@ returns-3 c =
       ),
     )
 
--- src/inner.rt:153:1
 same-length-10 : tie.Need-same-length-10
 same-length-10 c = search needs
 
--- src/inner.rt:153:1
 same-length-11 : tie.Need-same-length-11
 same-length-11 c = search needs
 
--- src/inner.rt:153:1
 same-length-12 : tie.Need-same-length-12
 same-length-12 c = search needs
 
--- src/inner.rt:153:1
 returns-4 : tie.Need-returns-4
 returns-4 c =
     let s = c .before .before .before .before .before .before .before .before .before .before .before .before .before .before .before .before .before .before .before .before .before in
