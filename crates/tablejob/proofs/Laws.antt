@@ -86,7 +86,7 @@ stands-read input gone buf₀ buf out j k f e s =
     record { text = λ rest. rw (append-assoc input new rest, h, append-assoc (held buf₀ j) new rest) (s .text (new ++ rest)) }
 
 pub stands-written : StandsWritten
-stands-written input gone buf out j on s = record { text = λ rest. s .text rest ∙ sym (append-assoc gone (take (j .waiting) out) (cond (j .«goes_on») (textFrom (j .progress) (held buf j ++ rest)) [])) }
+stands-written input gone buf out j s = record { text = λ rest. s .text rest ∙ sym (append-assoc gone (take (j .waiting) out) (cond (j .«goes_on») (textFrom (j .progress) (held buf j ++ rest)) [])) }
 
 pub ends-refused : EndsRefused
 ends-refused input gone buf out j off s = record { text = rw (append-nil input, off, append-nil (take (j .waiting) out)) at (s .text []) }
@@ -123,7 +123,7 @@ lines-done buf out last j f w on k p t =
     let a : Added out (putMid (j .waiting) (length out - j .waiting) out last) (take (f .used) last) (j .waiting) (j .waiting + f .used) = added out (take (f .used) last) last (j .waiting) (f .used) wt (sym n) (p .used) l in
     let fr = added-front out (putMid (j .waiting) (length out - j .waiting) out last) (take (f .used) last) (j .waiting) (j .waiting + f .used) wt a in
     record {
-      within = record { order = omega arith; bytes = wb; few = omega arith; seen = refl; text = a .room };
+      within = record { order = omega arith; bytes = wb; seen = refl; text = a .room };
       keeps = λ input gone s. record { text = λ rest. s .text rest ∙ rw (on, fr, hr, p .text rest, append-assoc (take (j .waiting) out) (take (f .used) last)) };
       through = λ go room. ap noLf hr ∙ t go (omega (arith, lP));
     }
@@ -139,12 +139,12 @@ module _ (buf buf′ : List ℕ) (j : Job) (e : take (j .have - j .from) buf′ 
   pub front-within : (room : ℕ) → j .have - j .from ≤ length buf′ → noLf (held buf j) ≡ true → j .waiting ≤ room → Within buf′ room (atFront j)
   front-within room h l w =
       let z : j .have - j .from - 0 ≡ j .have - j .from = omega arith in
-      record { order = omega arith; bytes = h; few = omega arith; seen = ap noLf (rw z (take-take (j .have - j .from) (j .have - j .from) buf′ (omega arith)) ∙ e) ∙ l; text = w }
+      record { order = omega arith; bytes = h; seen = ap noLf (rw z (take-take (j .have - j .from) (j .have - j .from) buf′ (omega arith)) ∙ e) ∙ l; text = w }
 
 -- ---- at the end of the table
 pub over-within : (buf : List ℕ) (room m : ℕ) (j : Job) → j .have ≤ length buf → j .waiting + m ≤ room → Within buf room (over j m)
 unfolding noLf
-over-within buf room m j h w = record { order = omega arith; bytes = h; few = omega arith; seen = refl; text = w }
+over-within buf room m j h w = record { order = omega arith; bytes = h; seen = refl; text = w }
 
 pub over-stands : (input gone buf out out′ : List ℕ) (j : Job) (m : ℕ) → j .waiting ≤ length out → j .«goes_on» ≡ true
     → ((rest : List ℕ) → Added out out′ (textFrom (j .progress) (held buf j ++ rest)) (j .waiting) (j .waiting + m))
@@ -206,11 +206,11 @@ module _ (buf buf′ o out′ : List ℕ) (t r : Job) (e : take (t .have - t .fr
 -- before the first read
 pub within-first : (buf : List ℕ) (room : ℕ) → Within buf room first
 unfolding noLf
-within-first buf room = record { order = omega arith; bytes = omega arith; few = omega arith; seen = refl; text = omega arith }
+within-first buf room = record { order = omega arith; bytes = omega arith; seen = refl; text = omega arith }
 
 -- with no text that waits
 pub within-written : (buf : List ℕ) (room : ℕ) (j : Job) → Within buf room j → Within buf room (handedOver j)
-within-written buf room j w = record { order = w .order; bytes = w .bytes; few = w .few; seen = w .seen; text = omega arith }
+within-written buf room j w = record { order = w .order; bytes = w .bytes; seen = w .seen; text = omega arith }
 
 -- after a read, behind the bytes that are held
 module _ (buf₀ buf : List ℕ) (room : ℕ) (j : Job) (r : Ready buf₀ room j) (e : take (j .have) buf ≡ take (j .have) buf₀) (l : length buf ≡ length buf₀) where
@@ -230,7 +230,6 @@ module _ (buf₀ buf : List ℕ) (room : ℕ) (j : Job) (r : Ready buf₀ room j
   within-read k w h =
       let z = r .front in
       let o = w .order in
-      let few = w .few in
       let wb = w .bytes in
       let new = take k (drop (j .have) buf) in
       let a : j .have + k - j .from ≡ j .have + k = omega (arith, z) in
@@ -240,7 +239,7 @@ module _ (buf₀ buf : List ℕ) (room : ℕ) (j : Job) (r : Ready buf₀ room j
       record {
         order = omega arith;
         bytes = h;
-        few = omega arith;
+       
         seen = ap (λ (x : List ℕ). noLf (take (j .seen) x)) g ∙ ap noLf (take-append-le (j .seen) (held buf₀ j) new (omega arith)) ∙ w .seen;
         text = w .text;
       }

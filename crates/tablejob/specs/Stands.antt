@@ -41,9 +41,8 @@ over j n = record { progress = j .progress; from = j .have; have = j .have; seen
 
 -- Its places lie in the buffer and in the room for text, and the bytes that need not be searched again have no LF.
 pub record Within (buf : List ℕ) (room : ℕ) (j : Job) : Type 0 where
-  pub order : j .from ≤ j .have
+  pub order : j .from + j .seen ≤ j .have
   pub bytes : j .have ≤ length buf
-  pub few : j .from + j .seen ≤ j .have
   pub seen : noLf (take (j .seen) (held buf j)) ≡ true
   pub text : j .waiting ≤ room
 
@@ -84,7 +83,7 @@ StandsRead =
 
 -- after a write of the text that waits: `stands-written`
 abbrev pub StandsWritten : Type 0
-StandsWritten = (input gone buf out : List ℕ) (j : Job) → j .«goes_on» ≡ true → Stands input gone buf out j → Stands input (gone ++ take (j .waiting) out) buf out (handedOver j)
+StandsWritten = (input gone buf out : List ℕ) (j : Job) → Stands input gone buf out j → Stands input (gone ++ take (j .waiting) out) buf out (handedOver j)
 
 -- a table that goes on no further is at its end, whatever was read besides: `ends-refused`
 abbrev pub EndsRefused : Type 0

@@ -94,7 +94,7 @@ loop-again c =
       w .kept .1 .1 .1 .0 ∙ l .inv .2,
       within-written (w .last .1 .0) (length (w .last .1 .1 .1 .0)) (w .result) (rw (w .kept .1 .1 .1 .0) (w .ensures .0)),
       on,
-      (t .0, _, stands-written (t .0) (t .1) (w .last .1 .0) (w .last .1 .1 .1 .0) (w .result) on k),
+      (t .0, _, stands-written (t .0) (t .1) (w .last .1 .0) (w .last .1 .1 .1 .0) (w .result) k),
     )
 
 more-bytes-requires : tie.Need-more-bytes-requires Inv-loop μ-loop
