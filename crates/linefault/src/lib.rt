@@ -1,9 +1,15 @@
-// Why a line is refused, for a word on standard error. What is printed is decided by `table` alone: nothing here changes it.
+// Why a line is refused, for a word on standard error. A fault is found exactly where the line is refused; which of its faults is told is
+// left open. What is printed is decided by `table` alone.
 use table::NumberText;
 use table::Progress;
 use table::RowsSoFar;
-ghost use Prim.Native.Nat.{_≤_, _<_};
-ghost use lib.ListN.{length};
+ghost use mathlib.Core.Path.{_≡_};
+ghost use mathlib.Core.Bool.{true, false, not};
+ghost use Prim.Native.Nat.{_≤_, _<_, _+_};
+ghost use lib.ListN.{length, drop};
+ghost use Rattle.table.specs.Text.{fields, isNumber, commaAt, rowText, paramsOf};
+ghost use Rattle.table.specs.Table.{opened, counted, verdict};
+ghost use Rattle.linefault.specs.Faults.{limitOf, allWithin, refuses};
 
 // What is wrong with a line.
 pub enum What {
@@ -35,7 +41,9 @@ pub struct Fault {
 // The bytes after which a line without an end is refused.
 pub const NO_END: usize = 65536;
 
-fn none(field: usize) -> Fault {
+fn none(field: usize) -> Fault
+    ensures { λ r. ⌜ (r .bad ≡ false) × (r .field ≡ field) ⌝ }
+{
     Fault {
         bad: false,
         what: What::Nothing,
@@ -45,7 +53,9 @@ fn none(field: usize) -> Fault {
     }
 }
 
-fn some(what: What, field: usize, column: usize, byte: u8) -> Fault {
+fn some(what: What, field: usize, column: usize, byte: u8) -> Fault
+    ensures { λ r. ⌜ r .bad ≡ true ⌝ }
+{
     Fault {
         bad: true,
         what,
@@ -58,26 +68,19 @@ fn some(what: What, field: usize, column: usize, byte: u8) -> Fault {
 // The place of the first comma from a place on, or the length.
 fn comma_from(line: &[u8], from: usize) -> usize
     requires { ⌜ from ≤ length (now line) ⌝ }
-    ensures { λ r. ⌜ (from ≤ r) × (r ≤ length (now (line .entry))) ⌝ }
+    ensures { λ r. ⌜ r ≡ from + commaAt (drop from (now (line .entry))) ⌝ }
+    ensures { λ r. ⌜ r ≤ length (now (line .entry)) ⌝ }
 {
-    let mut i = from;
-    while i < line.len() {
-        if line[i] == 44 {
-            return i;
-        }
-        i += 1;
-    }
-    i
+    from + table::comma_at(&line[from..])
 }
 
-// The place of the first byte from a place to another that is no digit, or the second place.
-fn other_from(line: &[u8], from: usize, to: usize) -> usize
-    requires { ⌜ (from ≤ to) × (to ≤ length (now line)) ⌝ }
-    ensures { λ r. ⌜ r ≤ to ⌝ }
+// The place of the first byte that is no digit, or the length.
+fn other_at(field: &[u8]) -> usize
+    ensures { λ r. ⌜ r ≤ length (now (field .entry)) ⌝ }
 {
-    let mut i = from;
-    while i < to {
-        let b = line[i];
+    let mut i = 0usize;
+    while i < field.len() {
+        let b = field[i];
         if (b < 48) | (57 < b) {
             return i;
         }
@@ -87,42 +90,56 @@ fn other_from(line: &[u8], from: usize, to: usize) -> usize
 }
 
 // The highest number of a field: that of a reading or of the floor, or that of least distance and least width.
-pub fn limit_of(first: bool, field: usize) -> u32 {
+pub fn limit_of(first: bool, field: usize) -> u32
+    ensures { λ r. ⌜ r ≡ limitOf first field ⌝ }
+{
     if first & (1 < field) {
-        return limits::MAX_COUNT;
+        limits::MAX_COUNT
+    } else {
+        table::MAX_NUMBER
     }
-    table::MAX_NUMBER
 }
 
-// What is wrong with the field between two places.
-fn field_fault(line: &[u8], from: usize, to: usize, first: bool, field: usize) -> Fault
-    requires { ⌜ (from ≤ to) × (to ≤ length (now line)) ⌝ }
+// What is wrong with a field that is no number to its limit, and starts at a place.
+fn bad_field(text: &[u8], at: usize, field: usize) -> Fault
+    requires { ⌜ at + length (now text) < 0x1_0000_0000_0000_0000 ⌝ }
+    ensures { λ r. ⌜ r .bad ≡ true ⌝ }
 {
-    if from == to {
-        return some(What::EmptyField, field, from + 1, 0);
+    if text.len() == 0 {
+        return some(What::EmptyField, field, at, 0);
     }
-    let i = other_from(line, from, to);
-    if i < to {
-        return some(What::OtherByte, field, i + 1, line[i]);
+    let i = other_at(text);
+    if i < text.len() {
+        return some(What::OtherByte, field, at + i + 1, text[i]);
     }
-    if 8 < to - from {
-        return some(What::Digits, field, from + 1, 0);
+    if 8 < text.len() {
+        return some(What::Digits, field, at, 0);
     }
-    let number = table::number(&line[from..to], limit_of(first, field));
+    some(What::TooHigh, field, at, 0)
+}
+
+// What is wrong with a field, if anything.
+fn field_fault(text: &[u8], at: usize, first: bool, field: usize) -> Fault
+    requires { ⌜ at + length (now text) < 0x1_0000_0000_0000_0000 ⌝ }
+    ensures { λ r. ⌜ r .bad ≡ not (isNumber (limitOf first field) (now (text .entry))) ⌝ }
+{
+    let number = table::number(text, limit_of(first, field));
     match number {
         NumberText::Number(_) => none(field),
-        NumberText::Bad => some(What::TooHigh, field, from + 1, 0),
+        NumberText::Bad => bad_field(text, at, field),
     }
 }
 
 // What is wrong with the first bad field of a line, or how many fields it has.
-fn fields_fault(line: &[u8], first: bool) -> Fault {
+fn fields_fault(line: &[u8], first: bool) -> Fault
+    ensures { λ r. ⌜ r .bad ≡ not (allWithin first 1 (fields (now (line .entry)))) ⌝ }
+    ensures { λ r. ⌜ (r .bad ≡ false → r .field ≡ length (fields (now (line .entry)))) ⌝ }
+{
     let mut from = 0usize;
-    let mut field = 0usize;
+    let mut field = 1usize;
     loop {
         let to = comma_from(line, from);
-        field += 1;
-        let f = field_fault(line, from, to, first, field);
+        let f = field_fault(&line[from..to], from, first, field);
         if f.bad {
             return f;
         }
@@ -130,10 +147,13 @@ fn fields_fault(line: &[u8], first: bool) -> Fault {
             return none(field);
         }
         from = to + 1;
+        field += 1;
     }
 }
 
-fn params_fault(line: &[u8]) -> Fault {
+fn params_fault(line: &[u8]) -> Fault
+    ensures { λ r. ⌜ r .bad ≡ refuses (opened (paramsOf (now (line .entry)))) ⌝ }
+{
     let f = fields_fault(line, true);
     if f.bad {
         return f;
@@ -144,7 +164,9 @@ fn params_fault(line: &[u8]) -> Fault {
     some(What::NotThree, f.field, 1, 0)
 }
 
-fn row_fault(s: RowsSoFar, line: &[u8]) -> Fault {
+fn row_fault(s: RowsSoFar, line: &[u8]) -> Fault
+    ensures { λ r. ⌜ r .bad ≡ refuses (counted s (rowText (now (line .entry)))) ⌝ }
+{
     let f = fields_fault(line, false);
     if f.bad {
         return f;
@@ -162,7 +184,9 @@ fn row_fault(s: RowsSoFar, line: &[u8]) -> Fault {
 }
 
 // What is wrong with a line, given without its CR LF.
-fn line_fault(s: Progress, line: &[u8]) -> Fault {
+fn line_fault(s: Progress, line: &[u8]) -> Fault
+    ensures { λ r. ⌜ r .bad ≡ refuses (verdict s (now (line .entry))) ⌝ }
+{
     if line.len() == 0 {
         return some(What::Blank, 0, 1, 0);
     }

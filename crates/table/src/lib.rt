@@ -93,7 +93,7 @@ fn with_digit(value: u32, b: u8) -> u32
 }
 
 // The place of the first comma, or the length.
-fn comma_at(line: &[u8]) -> usize
+pub fn comma_at(line: &[u8]) -> usize
     ensures { λ r. ⌜ r ≡ commaAt (now (line .entry)) ⌝ }
 {
     let mut i = 0usize;

@@ -239,7 +239,6 @@ module _ (buf₀ buf : List ℕ) (room : ℕ) (j : Job) (r : Ready buf₀ room j
       record {
         order = omega arith;
         bytes = h;
-       
         seen = ap (λ (x : List ℕ). noLf (take (j .seen) x)) g ∙ ap noLf (take-append-le (j .seen) (held buf₀ j) new (omega arith)) ∙ w .seen;
         text = w .text;
       }

@@ -1,13 +1,14 @@
 use Prim.Native.Nat.{_≤_, _-_}
+use lib.ListN.{length}
 use borrow.Author.Needs.{needs}
-use Rattle.linefault.proofs.other_from.Statement.{statement}
-use Rattle.linefault.proofs.other_from.Tie as tie
+use Rattle.linefault.proofs.other_at.Statement.{statement}
+use Rattle.linefault.proofs.other_at.Tie as tie
 
 abbrev Inv-loop : tie.InvT-loop
-Inv-loop line from to i₀ i = (from ≤ i) × (i ≤ to)
+Inv-loop field i₀ i = i ≤ length field
 
 abbrev μ-loop : tie.MeasureT-loop
-μ-loop line from to i₀ i = to - i
+μ-loop field i₀ i = length field - i
 
 loop-holds : tie.Need-loop-holds Inv-loop μ-loop
 loop-holds c = search needs
@@ -30,8 +31,8 @@ loop-again c = search needs
 returns-2 : tie.Need-returns-2 Inv-loop μ-loop
 returns-2 c = search needs
 
-pub other-from-spec : {M : Type 1} → statement M
-other-from-spec =
+pub other-at-spec : {M : Type 1} → statement M
+other-at-spec =
     tie.close
     (tie.spec
     Inv-loop
