@@ -18,7 +18,7 @@ use Rattle.table.specs.declared.RowsSoFar.{RowsSoFar}
 use Rattle.table.specs.declared.Progress.{Progress}
 use Rattle.table.specs.Table.{isNext, opened, counted, verdict}
 use Rattle.table.proofs.Laws.{split-comma, split-none}
-use Rattle.linefault.specs.Faults.{limitOf, allWithin, refuses}
+use Rattle.linefault.specs.Faults.{limitOf, allWithin, refuses, refusedAtEnd}
 
 -- ---- a field
 
@@ -193,3 +193,17 @@ at-start line = refl
 pub at-rows : (t : RowsSoFar) (line : List ℕ) → verdict (Progress.Rows t) line ≡ counted t (rowText line)
 unfolding verdict
 at-rows t line = refl
+
+-- ---- the end of the input
+pub end-some : (s : Progress) (bytes : List ℕ) → 0 < length bytes → refusedAtEnd s bytes ≡ refuses (verdict s bytes)
+end-some s [] h = absurd (omega arith)
+end-some Progress.Start (b ∷ bs) h = refl
+end-some (Progress.Rows t) (b ∷ bs) h = refl
+
+pub end-start : (bytes : List ℕ) → length bytes ≡ 0 → refusedAtEnd Progress.Start bytes ≡ true
+end-start [] h = refl
+end-start (b ∷ bs) h = absurd (omega arith)
+
+pub end-rows : (t : RowsSoFar) (bytes : List ℕ) → length bytes ≡ 0 → refusedAtEnd (Progress.Rows t) bytes ≡ false
+end-rows t [] h = refl
+end-rows t (b ∷ bs) h = absurd (omega arith)

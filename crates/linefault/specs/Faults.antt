@@ -6,7 +6,9 @@ use lib.Dec.{ltb}
 use Rattle.limits.specs.Limits.{maxCount}
 use Rattle.table.specs.Sizes.{maxNumber}
 use Rattle.table.specs.Text.{isNumber}
+use Rattle.table.specs.declared.Progress.{Progress}
 use Rattle.table.specs.declared.Verdict.{Verdict}
+use Rattle.table.specs.Table.{verdict}
 
 -- the highest number of field k of the first line or of a row, counted from 1
 abbrev pub limitOf : Bool → ℕ → ℕ
@@ -22,3 +24,9 @@ abbrev pub refuses : Verdict → Bool
 refuses (Verdict.Heading s) = false
 refuses (Verdict.Row s) = false
 refuses Verdict.Refused = true
+
+-- At the end of the input, with bytes behind the last line that has an end: the last line is refused, or there is none at all.
+abbrev pub refusedAtEnd : Progress → List ℕ → Bool
+refusedAtEnd Progress.Start [] = true
+refusedAtEnd (Progress.Rows t) [] = false
+refusedAtEnd s (b ∷ bytes) = refuses (verdict s (b ∷ bytes))

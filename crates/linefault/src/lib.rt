@@ -9,7 +9,7 @@ ghost use Prim.Native.Nat.{_≤_, _<_, _+_};
 ghost use lib.ListN.{length, drop};
 ghost use Rattle.table.specs.Text.{fields, isNumber, commaAt, rowText, paramsOf};
 ghost use Rattle.table.specs.Table.{opened, counted, verdict};
-ghost use Rattle.linefault.specs.Faults.{limitOf, allWithin, refuses};
+ghost use Rattle.linefault.specs.Faults.{limitOf, allWithin, refuses, refusedAtEnd};
 
 // What is wrong with a line.
 pub enum What {
@@ -226,7 +226,7 @@ fn ended_fault(s: Progress, line: &[u8]) -> Fault
 }
 
 // What is wrong with the last line of some bytes, where s has been accepted before it.
-pub fn last_fault(s: Progress, bytes: &[u8]) -> Fault {
+fn found_fault(s: Progress, bytes: &[u8]) -> Fault {
     let n = bytes.len();
     if n == 0 {
         return some(What::NoLine, 0, 1, 0);
@@ -240,4 +240,28 @@ pub fn last_fault(s: Progress, bytes: &[u8]) -> Fault {
         return some(What::NoEnd, 0, 1, 0);
     }
     line_fault(s, &bytes[from..])
+}
+
+// The same of a line that is refused.
+pub fn last_fault(s: Progress, bytes: &[u8]) -> Fault
+    ensures { λ r. ⌜ r .bad ≡ true ⌝ }
+{
+    let f = found_fault(s, bytes);
+    if f.bad {
+        return f;
+    }
+    some(What::Nothing, 0, 1, 0)
+}
+
+// What is wrong at the end of the input, if anything: with the bytes behind the last line that has an end, or in that there is no line.
+pub fn end_fault(s: Progress, bytes: &[u8]) -> Fault
+    ensures { λ r. ⌜ r .bad ≡ refusedAtEnd s (now (bytes .entry)) ⌝ }
+{
+    if 0 < bytes.len() {
+        return line_fault(s, bytes);
+    }
+    match s {
+        Progress::Start => some(What::NoLine, 0, 1, 0),
+        Progress::Rows(_) => none(0),
+    }
 }

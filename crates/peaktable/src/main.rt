@@ -4,13 +4,16 @@ mod say;
 
 use libc::STDIN_FILENO;
 use libc::STDOUT_FILENO;
+use linefault::Fault;
 use tablejob::inner::Job;
 ghost use mathlib.Core.Path.{_≡_};
+ghost use mathlib.Core.Bool.{true};
 ghost use mathlib.Core.List.{List};
 ghost use Prim.Native.Nat.{ℕ, _≤_, _<_, _+_};
 ghost use lib.ListN.{length, take};
 ghost use Rattle.table.specs.Sizes.{maxFields, maxLine, lineRoom};
-ghost use Rattle.tablejob.specs.Stands.{Within, Ends};
+ghost use Rattle.linefault.specs.Faults.{refusedAtEnd};
+ghost use Rattle.tablejob.specs.Stands.{Ends};
 ghost use Rattle.peaktable.specs.Reads.{bytesOf};
 
 // What reading gives: bytes behind those that are there, the end of the input, or a failure.
@@ -46,26 +49,35 @@ fn written(out: &[u8], n: usize) -> bool
     false
 }
 
-// Whether text ends in the refusal: of all lines that are printed it alone has a letter past f as its twelfth byte from the end.
-fn is_refusal(out: &[u8], n: usize) -> bool
-    requires { ⌜ n ≤ length (now out) ⌝ }
+// Writes the end of the table of all that was read, after a word on standard error where it is a refusal.
+fn finish(j: Job, f: Fault, out: &[u8])
+    requires { ⌜ (j .waiting ≤ length (now out)) × ((input : List ℕ) × (gone : List ℕ) × Ends input gone (now out) j) ⌝ }
 {
-    if n < 12 {
-        return false;
+    let progress = j.progress;
+    if f.bad {
+        say::refused(progress, f);
     }
-    out[n - 12] == 114
+    written(out, j.waiting);
 }
 
-// Writes the end of the table of all that was read. Where it is a refusal, a word on standard error says why.
-fn finish(j: Job, buf: &[u8], out: &[u8])
-    requires { ⌜ Within (now buf) (length (now out)) j × ((input : List ℕ) × (gone : List ℕ) × Ends input gone (now out) j) ⌝ }
+// The fault of the line that ended the table, whatever comes behind it.
+fn fault_behind(j: Job, buf: &[u8]) -> Fault
+    requires { ⌜ j .from ≤ length (now buf) ⌝ }
+    ensures { λ r. ⌜ r .bad ≡ true ⌝ }
 {
     let progress = j.progress;
     let from = j.from;
-    if is_refusal(out, j.waiting) {
-        say::refused(progress, linefault::last_fault(progress, &buf[..from]));
-    }
-    written(out, j.waiting);
+    linefault::last_fault(progress, &buf[..from])
+}
+
+// The fault at the end of the input, if there is one.
+fn fault_at_end(j: Job, buf: &[u8]) -> Fault
+    requires { ⌜ j .have ≤ length (now buf) ⌝ }
+    ensures { λ r. ⌜ r .bad ≡ refusedAtEnd (j .progress) (take (j .have) (now (buf .entry))) ⌝ }
+{
+    let progress = j.progress;
+    let have = j.have;
+    linefault::end_fault(progress, &buf[..have])
 }
 
 // Writes what waits where reading failed: the refusal behind it.
@@ -86,7 +98,8 @@ fn run(buf: &mut [u8], row: &mut [f32], out: &mut [u8])
         turns -= 1;
         job = tablejob::inner::work(job, buf, row, out);
         if !job.goes_on {
-            finish(job, buf, out);
+            let fault = fault_behind(job, buf);
+            finish(job, fault, out);
             return;
         }
         if out.len() - job.waiting < table::LINE_ROOM {
@@ -101,8 +114,9 @@ fn run(buf: &mut [u8], row: &mut [f32], out: &mut [u8])
                     job = tablejob::inner::with_bytes(job, k);
                 }
                 More::End => {
+                    let fault = fault_at_end(job, buf);
                     job = tablejob::inner::ended(job, buf, row, out);
-                    finish(job, buf, out);
+                    finish(job, fault, out);
                     return;
                 }
                 More::Failed => {

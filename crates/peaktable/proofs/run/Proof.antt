@@ -36,13 +36,16 @@ work-requires c κs =
     let s = c .before .before .before .before .before .before .before .before .before in
     (l .inv .3, l .inv .4, omega (arith, l .inv .0, s .pre .0), omega (arith, l .inv .1, s .pre .1))
 
+fault-behind-requires : tie.Need-fault-behind-requires Inv-loop μ-loop
+fault-behind-requires c κs = let w = c .before .before .before .before .before .before .before .before .before .work .ensures .0 in omega (arith, w .order, w .bytes)
+
 finish-requires : tie.Need-finish-requires Inv-loop μ-loop
 finish-requires c κs =
-    let l = c .before .before .before .before .before .before .before .before .before .before .before .before .before .before .before .loop in
-    let w = c .before .before .before .before .before .before .before .before .before .before .work in
+    let l = c .before .before .before .before .before .before .before .before .before .before .before .before .before .before .before .before .loop in
+    let w = c .before .before .before .before .before .before .before .before .before .before .before .work in
     let t = l .inv .5 in
     let k = w .ensures .1 .0 (t .0) (t .1) (t .2) in
-    (rw (w .kept .1 .1 .1 .0) (w .ensures .0), (t .0, t .1, ends-refused (t .0) (t .1) (w .last .1 .0) (w .last .1 .1 .1 .0) (w .result) (not-true _ (c .before .before .if1 .taken)) k))
+    (omega (arith, w .kept .1 .1 .1 .0, w .ensures .0 .text), (t .0, t .1, ends-refused (t .0) (t .1) (w .last .1 .0) (w .last .1 .1 .1 .0) (w .result) (not-true _ (c .before .before .before .if1 .taken)) k))
 
 same-length : tie.Need-same-length Inv-loop μ-loop
 same-length c = search needs
@@ -144,40 +147,42 @@ loop-again-2 c =
 enum-told : tie.Need-enum-told Inv-loop μ-loop
 enum-told c = search needs
 
+fault-at-end-requires : tie.Need-fault-at-end-requires Inv-loop μ-loop
+fault-at-end-requires c κs = let w = c .before .before .before .before .before .before .before .before .before .before .before .before .before .before .before .before .before .work .ensures .0 in omega (arith, w .bytes, c .before .before .before .before .before .more-bytes .kept .0)
+
 ended-requires : tie.Need-ended-requires Inv-loop μ-loop
 ended-requires c κs =
-    let m = c .before .before .before .before .before .before .before .more-bytes in
-    let w = c .before .before .before .before .before .before .before .before .before .before .before .before .before .before .before .before .before .before .before .work in
-    let l = c .before .before .before .before .before .before .before .before .before .before .before .before .before .before .before .before .before .before .before .before .before .before .before .before .loop in
-    let s = c .before .before .before .before .before .before .before .before .before .before .before .before .before .before .before .before .before .before .before .before .before .before .before .before .before .before .before .before .before in
-    let on = not-false _ (c .before .before .before .before .before .before .before .before .before .before .before .if1 .left) in
-    let r = w .ensures .1 .1 on (omega (arith, c .before .before .before .before .before .before .before .before .before .if2 .left, w .kept .1 .1 .1 .0, w .ensures .0 .text)) in
+    let m = c .before .before .before .before .before .before .before .before .before .more-bytes in
+    let w = c .before .before .before .before .before .before .before .before .before .before .before .before .before .before .before .before .before .before .before .before .before .work in
+    let l = c .before .before .before .before .before .before .before .before .before .before .before .before .before .before .before .before .before .before .before .before .before .before .before .before .before .before .loop in
+    let s = c .before .before .before .before .before .before .before .before .before .before .before .before .before .before .before .before .before .before .before .before .before .before .before .before .before .before .before .before .before .before .before in
+    let on = not-false _ (c .before .before .before .before .before .before .before .before .before .before .before .before .before .if1 .left) in
+    let r = w .ensures .1 .1 on (omega (arith, c .before .before .before .before .before .before .before .before .before .before .before .if2 .left, w .kept .1 .1 .1 .0, w .ensures .0 .text)) in
     let r′ : Ready (w .last .1 .0) (length (w .last .1 .1 .1 .0)) (w .result) = rw (w .kept .1 .1 .1 .0) r in
     (ready-read (w .last .1 .0) (m .last .0) (length (w .last .1 .1 .1 .0)) (w .result) r′ (m .ensures .0) (m .kept .0), on, omega (arith, w .kept .1 .1 .0, l .inv .1, s .pre .1))
 
 finish-requires-2 : tie.Need-finish-requires-2 Inv-loop μ-loop
 finish-requires-2 c κs =
-    let d = c .before .before .before .before .before .before .ended in
-    let m = c .before .before .before .before .before .before .before .before .before .before .before .before .before .before .more-bytes in
-    let w = c .before .before .before .before .before .before .before .before .before .before .before .before .before .before .before .before .before .before .before .before .before .before .before .before .before .before .work in
-    let l = c .before .before .before .before .before .before .before .before .before .before .before .before .before .before .before .before .before .before .before .before .before .before .before .before .before .before .before .before .before .before .before .loop in
-    let s = c .before .before .before .before .before .before .before .before .before .before .before .before .before .before .before .before .before .before .before .before .before .before .before .before .before .before .before .before .before .before .before .before .before .before .before .before in
+    let d = c .before .before .before .before .before .ended in
+    let m = c .before .before .before .before .before .before .before .before .before .before .before .before .before .before .before .more-bytes in
+    let w = c .before .before .before .before .before .before .before .before .before .before .before .before .before .before .before .before .before .before .before .before .before .before .before .before .before .before .before .work in
+    let l = c .before .before .before .before .before .before .before .before .before .before .before .before .before .before .before .before .before .before .before .before .before .before .before .before .before .before .before .before .before .before .before .before .loop in
     let t = l .inv .5 in
-    let on = not-false _ (c .before .before .before .before .before .before .before .before .before .before .before .before .before .before .before .before .before .before .if1 .left) in
-    let r = w .ensures .1 .1 on (omega (arith, c .before .before .before .before .before .before .before .before .before .before .before .before .before .before .before .before .if2 .left, w .kept .1 .1 .1 .0, w .ensures .0 .text)) in
+    let on = not-false _ (c .before .before .before .before .before .before .before .before .before .before .before .before .before .before .before .before .before .before .before .if1 .left) in
+    let r = w .ensures .1 .1 on (omega (arith, c .before .before .before .before .before .before .before .before .before .before .before .before .before .before .before .before .before .if2 .left, w .kept .1 .1 .1 .0, w .ensures .0 .text)) in
     let k = w .ensures .1 .0 (t .0) (t .1) (t .2) in
     let r′ : Ready (w .last .1 .0) (length (w .last .1 .1 .1 .0)) (w .result) = rw (w .kept .1 .1 .1 .0) r in
     let k′ = stands-end (w .last .1 .0) (m .last .0) (length (w .last .1 .1 .1 .0)) (w .result) r′ (m .ensures .0) (m .kept .0) (t .0) (t .1) (w .last .1 .1 .1 .0) k in
-    (rw (d .kept .1 .1 .1 .0) (d .ensures .0), (t .0, t .1, d .ensures .1 (t .0) (t .1) k′))
+    (omega (arith, d .kept .1 .1 .1 .0, d .ensures .0 .text), (t .0, t .1, d .ensures .1 (t .0) (t .1) k′))
 
 same-length-7 : tie.Need-same-length-7 Inv-loop μ-loop
-same-length-7 c = c .before .before .before .before .before .before .before .before .before .before .before .before .before .before .before .more-bytes .kept .0 ∙ c .before .before .before .before .before .before .before .before .before .before .before .before .before .before .before .before .before .before .before .before .before .before .before .before .before .before .before .work .kept .1 .0 ∙ c .before .before .before .before .before .before .before .before .before .before .before .before .before .before .before .before .before .before .before .before .before .before .before .before .before .before .before .before .before .before .before .before .loop .inv .0
+same-length-7 c = c .before .before .before .before .before .before .before .before .before .before .before .before .before .before .before .before .more-bytes .kept .0 ∙ c .before .before .before .before .before .before .before .before .before .before .before .before .before .before .before .before .before .before .before .before .before .before .before .before .before .before .before .before .work .kept .1 .0 ∙ c .before .before .before .before .before .before .before .before .before .before .before .before .before .before .before .before .before .before .before .before .before .before .before .before .before .before .before .before .before .before .before .before .before .loop .inv .0
 
 same-length-8 : tie.Need-same-length-8 Inv-loop μ-loop
-same-length-8 c = c .before .before .before .before .before .before .before .ended .kept .1 .1 .0 ∙ c .before .before .before .before .before .before .before .before .before .before .before .before .before .before .before .before .before .before .before .before .before .before .before .before .before .before .before .work .kept .1 .1 .0 ∙ c .before .before .before .before .before .before .before .before .before .before .before .before .before .before .before .before .before .before .before .before .before .before .before .before .before .before .before .before .before .before .before .before .loop .inv .1
+same-length-8 c = c .before .before .before .before .before .before .ended .kept .1 .1 .0 ∙ c .before .before .before .before .before .before .before .before .before .before .before .before .before .before .before .before .before .before .before .before .before .before .before .before .before .before .before .before .work .kept .1 .1 .0 ∙ c .before .before .before .before .before .before .before .before .before .before .before .before .before .before .before .before .before .before .before .before .before .before .before .before .before .before .before .before .before .before .before .before .before .loop .inv .1
 
 same-length-9 : tie.Need-same-length-9 Inv-loop μ-loop
-same-length-9 c = c .before .before .before .before .before .before .before .ended .kept .1 .1 .1 .0 ∙ c .before .before .before .before .before .before .before .before .before .before .before .before .before .before .before .before .before .before .before .before .before .before .before .before .before .before .before .work .kept .1 .1 .1 .0 ∙ c .before .before .before .before .before .before .before .before .before .before .before .before .before .before .before .before .before .before .before .before .before .before .before .before .before .before .before .before .before .before .before .before .loop .inv .2
+same-length-9 c = c .before .before .before .before .before .before .ended .kept .1 .1 .1 .0 ∙ c .before .before .before .before .before .before .before .before .before .before .before .before .before .before .before .before .before .before .before .before .before .before .before .before .before .before .before .before .work .kept .1 .1 .1 .0 ∙ c .before .before .before .before .before .before .before .before .before .before .before .before .before .before .before .before .before .before .before .before .before .before .before .before .before .before .before .before .before .before .before .before .before .loop .inv .2
 
 returns-3 : tie.Need-returns-3 Inv-loop μ-loop
 returns-3 c = search needs
@@ -225,6 +230,7 @@ run-spec =
     loop-holds
     sub-turns
     work-requires
+    fault-behind-requires
     finish-requires
     same-length
     same-length-2
@@ -245,6 +251,7 @@ run-spec =
     loop-less-2
     loop-again-2
     enum-told
+    fault-at-end-requires
     ended-requires
     finish-requires-2
     same-length-7
