@@ -27,6 +27,7 @@ mod shapes;
 mod stitch_bench;
 mod stitch_level;
 mod stitch_sample;
+mod table_level;
 mod tof_level;
 mod words;
 
@@ -70,7 +71,7 @@ fn main() {
         Some("compare") => {
             let count = words.get(2).map_or(1_000_000, |n| n.parse().expect("a count"));
             let word = words.get(3).map_or("", String::as_str);
-            let levels: [(&str, fn(&mut Tally, u64), u64); 9] = [
+            let levels: [(&str, fn(&mut Tally, u64), u64); 10] = [
                 ("leaves", leaves::compare, 1),
                 ("apexes", rows::compare, 1),
                 ("records", records::compare, 10),
@@ -80,6 +81,7 @@ fn main() {
                 ("frames", frames_level::compare, 2),
                 ("retention", retention_level::compare, 4),
                 ("expansion", expand_level::compare, 4),
+                ("table", table_level::compare, 500),
             ];
             let mut tally = Tally { compared: 0, differ: 0 };
             for (name, compare, fewer) in levels {

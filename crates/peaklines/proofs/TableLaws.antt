@@ -1,14 +1,12 @@
--- Laws of scans that count up, and of the text of a line.
+-- Laws of the text of a line.
 use mathlib.Core.Path.{_≡_, refl, sym, ap, _∙_}
 use mathlib.Core.Bool.{Bool, true, false, cond}
-use mathlib.Core.List.{List, [], _∷_, _++_, append-nil}
-use Prim.Native.Nat.{ℕ, zero, suc, _≤_, _<_, _+_, _-_}
+use mathlib.Core.List.{List, _++_, append-nil}
+use Prim.Native.Nat.{ℕ, _≤_, _+_, _-_}
 use native.Mathlib.Omega.{arith}
-use native.Mathlib.Numerals.{add-one}
-use borrow.Author.Tests.{leb-true, leb-false}
-use lib.Dec.{leb}
-use lib.ListN.{length, take, drop, set, length-append, length-map, length-drop, drop-of-length-le}
-use lib.Seq.{take-all, take-append-le, take-at, length-take-le}
+use borrow.Author.Tests.{leb-true}
+use lib.ListN.{length, take, drop, length-append, length-map, length-drop}
+use lib.Seq.{take-at}
 use lib.Ieee.{Float}
 use Rattle.numeric.specs.Arith.{indexF}
 use Rattle.numeric.specs.Numeric.{allInRange}
@@ -20,44 +18,9 @@ use Rattle.table.specs.declared.RowText.{RowText}
 use Rattle.table.specs.Text.{fields, value, allNumbers, readings, isRow, rowText, paramsOf}
 use Rattle.table.specs.Print.{refusal}
 use Rattle.table.specs.Table.{verdict, isNext, counted, atLine, printedFrom}
-use Rattle.table.proofs.Laws.{push, row-counted, row-text, never-row}
+use Rattle.table.proofs.Laws.{row-counted, row-text, never-row}
 use Rattle.table.proofs.Readings.{readings-range}
-use Rattle.peaklines.specs.TableText.{scans, lineText, textOf, peaksText, Sound, behindLine, LineByLine}
-
--- ---- scans
-pub scans-length : (n : ℕ) → length (scans n) ≡ n
-unfolding scans
-scans-length zero = refl
-scans-length (suc n) = rw (length-append, scans-length n) (omega arith)
-
-pub scans-step : (n : ℕ) (d : List ℕ) → n < length d → set (scans n ++ drop n d) n n ≡ scans (n + 1) ++ drop (n + 1) d
-unfolding scans
-scans-step n d h = push (scans n) d n n (scans-length n) h ∙ rw (add-one n)
-
-pub scans-none : (d : List ℕ) → d ≡ scans 0 ++ drop 0 d
-unfolding scans
-scans-none d = refl
-
-pub scans-all : (n : ℕ) (d : List ℕ) → n ≤ length d → length d ≤ n → scans n ++ drop n d ≡ scans (length d)
-scans-all n d h k = let e : n ≡ length d = omega arith in rw (drop-of-length-le d k, append-nil) (ap scans e)
-
-pub scans-take : (n m : ℕ) → n ≤ m → take n (scans m) ≡ scans n
-unfolding scans
-scans-take n zero h = let e : n ≡ 0 = omega arith in rw e
-scans-take n (suc m) h = go (leb n m) refl (scans-take n m)
-  where
-    go : (b : Bool) → leb n m ≡ b → (n ≤ m → take n (scans m) ≡ scans n) → take n (scans m ++ (m ∷ [])) ≡ scans n
-    go true e r = let k = leb-true n m e in take-append-le n (scans m) (m ∷ []) (rw (scans-length m) k) ∙ r k
-    go false e r =
-        let k : n ≡ suc m = omega (arith, leb-false n m e) in
-        take-all n (scans m ++ (m ∷ [])) (rw (length-append, scans-length m) (omega arith)) ∙ rw k
-
--- the scans of the first samples of a row
-pub scans-of : (axis : List ℕ) (row : List Float) (n : ℕ) → axis ≡ scans 4096 → n ≤ 4096 → n ≤ length row → take n axis ≡ scans (length (take n row))
-scans-of axis row n e h k = ap (take n) e ∙ scans-take n 4096 h ∙ ap scans (sym (length-take-le n row k))
-
-pub axis-length : (axis : List ℕ) → axis ≡ scans 4096 → length axis ≡ 4096
-axis-length axis e = ap length e ∙ scans-length 4096
+use Rattle.peaklines.specs.TableText.{lineText, textOf, peaksText, Sound, behindLine, LineByLine}
 
 -- ---- verdicts
 first-row : (s t : RowsSoFar) (x : RowText) → counted s x ≡ Verdict.Row t → 1 ≤ t .rows

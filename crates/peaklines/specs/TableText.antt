@@ -1,9 +1,9 @@
--- The text of the table: what is printed for each line that is read. Scans count from 0.
+-- The text of the table: what is printed for each line that is read.
 use mathlib.Core.Path.{_≡_}
 use mathlib.Core.Bool.{true}
 use mathlib.Core.List.{List, [], _∷_, _++_}
-use Prim.Native.Nat.{ℕ, zero, suc, _-_, _≤_}
-use lib.ListN.{length, take}
+use Prim.Native.Nat.{ℕ, _-_, _≤_}
+use lib.ListN.{take}
 use lib.Ieee.{Float}
 use Rattle.limits.specs.Limits.{anyNumber}
 use Rattle.table.specs.Sizes.{maxFields}
@@ -17,14 +17,9 @@ use Rattle.table.specs.Text.{readings}
 use Rattle.table.specs.Table.{verdict, printedFrom, table}
 use Rattle.peaklines.specs.RowLines.{rowLines}
 
--- the scans of n samples
-unfoldable pub scans : ℕ → List ℕ
-scans zero = []
-scans (suc n) = scans n ++ (n ∷ [])
-
 -- the lines of the peaks that the parameters p find in row k, whose readings are y
 abbrev pub peaksText : ImDetectParams → ℕ → List Float → List ℕ
-peaksText p k y = rowLines p k (scans (length y)) y
+peaksText p k y = rowLines p k y
 
 -- The table that is printed for bytes.
 abbrev pub tableText : List ℕ → List ℕ

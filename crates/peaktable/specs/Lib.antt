@@ -1,2 +1,2 @@
 -- What the contracts of `peaktable` cite.
-pub mod Held
+pub mod Reads

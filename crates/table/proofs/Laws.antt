@@ -348,7 +348,7 @@ module _ (limit : ℕ) (f : List ℕ) (v i : ℕ) (s : Counted limit f v (drop i
   number-end h = (s .0 ∙ rw (drop-of-length-le f h), s .1 ∙ rw (drop-of-length-le f h))
 
 -- ---- the fields of a line by its commas
-split-comma : (l : List ℕ) → commaAt l < length l → fields l ≡ take (commaAt l) l ∷ fields (drop (suc (commaAt l)) l)
+pub split-comma : (l : List ℕ) → commaAt l < length l → fields l ≡ take (commaAt l) l ∷ fields (drop (suc (commaAt l)) l)
 unfolding fields commaAt
 split-comma [] h = absurd (omega arith)
 split-comma (b ∷ bs) h = go (eqb b comma) h (split-comma bs)
@@ -359,7 +359,7 @@ split-comma (b ∷ bs) h = go (eqb b comma) h (split-comma bs)
     go true h r = refl
     go false h r = ap (onto b) (r (omega arith))
 
-split-none : (l : List ℕ) → length l ≤ commaAt l → fields l ≡ l ∷ []
+pub split-none : (l : List ℕ) → length l ≤ commaAt l → fields l ≡ l ∷ []
 unfolding fields commaAt
 split-none [] h = refl
 split-none (b ∷ bs) h = go (eqb b comma) h (split-none bs)

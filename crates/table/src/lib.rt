@@ -93,7 +93,7 @@ fn with_digit(value: u32, b: u8) -> u32
 }
 
 // The place of the first comma, or the length.
-fn comma_at(line: &[u8]) -> usize
+pub fn comma_at(line: &[u8]) -> usize
     ensures { λ r. ⌜ r ≡ commaAt (now (line .entry)) ⌝ }
 {
     let mut i = 0usize;
@@ -107,7 +107,7 @@ fn comma_at(line: &[u8]) -> usize
 }
 
 // The number of a field of 1 to 8 digits, to a limit.
-fn number(field: &[u8], limit: u32) -> NumberText
+pub fn number(field: &[u8], limit: u32) -> NumberText
     ensures { λ r. ⌜ r ≡ numberText limit (now (field .entry)) ⌝ }
 {
     if field.len() == 0 {

@@ -2,7 +2,7 @@
 use mathlib.Core.Path.{_≡_, refl, sym, _∙_, ap, subst}
 use mathlib.Core.Bool.{Bool, true, false, cond, not, _&&_}
 use mathlib.Core.List.{List, [], _∷_, _++_, append-assoc, append-nil}
-use Prim.Native.Nat.{ℕ, suc, _≤_, _<_, _+_, _-_}
+use Prim.Native.Nat.{ℕ, zero, suc, _≤_, _<_, _+_, _-_}
 use native.Mathlib.Nat.{zero-add, add-zero}
 use native.Mathlib.Omega.{arith}
 use lib.Dec.{eqb}
@@ -219,3 +219,19 @@ module _ (bytes : List ℕ) (from i : ℕ) (h : nextLine bytes from ≡ LineEnd.
 -- what is printed from the start on is the table
 pub whole-text : WholeText
 whole-text bytes = refl
+
+-- ---- bytes that are known to have no LF need not be searched
+lf-past : (k n : ℕ) (bs : List ℕ) → noLf (take n bs) ≡ true → lfFrom (k + n) (drop n bs) ≡ lfFrom k bs
+unfolding lfFrom noLf
+lf-past k zero bs h = rw (add-zero k)
+lf-past k (suc n) [] h = refl
+lf-past k (suc n) (b ∷ bs) h =
+    let e : k + suc n ≡ k + 1 + n = omega arith in
+    rw e (go (eqb b lf) h (lf-past (k + 1) n bs))
+  where
+    go : (e : Bool) → (not e && noLf (take n bs)) ≡ true → (noLf (take n bs) ≡ true → lfFrom (k + 1 + n) (drop n bs) ≡ lfFrom (k + 1) bs) → lfFrom (k + 1 + n) (drop n bs) ≡ cond e (LineEnd.At k) (lfFrom (k + 1) bs)
+    go true h r = clash false h refl
+    go false h r = r h
+
+pub next-past : (bytes : List ℕ) (seen : ℕ) → noLf (take seen bytes) ≡ true → nextLine bytes seen ≡ nextLine bytes 0
+next-past bytes seen h = let e : 0 + seen ≡ seen = omega arith in rw e at (lf-past 0 seen bytes h)

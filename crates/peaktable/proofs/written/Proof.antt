@@ -1,3 +1,4 @@
+use Prim.Native.Nat.{_-_}
 use native.Mathlib.Omega.{arith}
 use borrow.Author.Needs.{needs}
 use lib.ListN.{length-take}
@@ -13,11 +14,8 @@ write-all-requires c κs = search needs
 returns : tie.Need-returns
 returns c = search needs
 
-slice-aggregate-write-all-2 : tie.Need-slice-aggregate-write-all-2
-slice-aggregate-write-all-2 c = search needs
-
-write-all-requires-2 : tie.Need-write-all-requires-2
-write-all-requires-2 c κs = search needs
+cannot-write-requires : tie.Need-cannot-write-requires
+cannot-write-requires c κs = search needs
 
 returns-2 : tie.Need-returns-2
 returns-2 c = search needs
@@ -25,10 +23,4 @@ returns-2 c = search needs
 pub written-spec : {M : Type 1} → statement M
 written-spec =
     tie.close
-    (tie.spec
-    slice-aggregate-write-all
-    write-all-requires
-    returns
-    slice-aggregate-write-all-2
-    write-all-requires-2
-    returns-2)
+    (tie.spec slice-aggregate-write-all write-all-requires returns cannot-write-requires returns-2)

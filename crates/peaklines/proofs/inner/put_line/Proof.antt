@@ -15,11 +15,10 @@ accept-requires c κs = search needs
 put-text-requires : tie.Need-put-text-requires
 put-text-requires c κs =
     let f = c .before .before .before .before in
-    let s = f .before .before .before .before .before .before in (
+    let s = f .before .before .before .before .before in (
       row-sound (s .args .s) (s .args .line .now) (f .accept .last .1 .1 .0) (s .args .row .now) (f .accept .result) (f .accept .ensures .0) (f .accept .ensures .1 .0),
       omega (arith, f .accept .kept .1 .1 .0, s .pre .0),
       s .pre .1,
-      s .pre .2,
     )
 
 same-length : tie.Need-same-length
@@ -32,14 +31,14 @@ returns : tie.Need-returns
 returns c =
     let g = c .before .before in
     let f = g .before .before .before .before .before in
-    let s = f .before .before .before .before .before .before in
+    let s = f .before .before .before .before .before in
     let out = s .args .out .now in
     let line = s .args .line .now in
     let e = line-text (s .args .s) line (f .accept .last .1 .1 .0) (s .args .row .now) (f .accept .result) (f .accept .ensures .0) (f .accept .ensures .1 .0) in
     let k = g .put-text .ensures .0 in
     let l = g .put-text .ensures .1 in (
       f .accept .ensures .0,
-      (k ∙ ap length e, (text-fits (textOf (f .accept .last .1 .1 .0) (f .accept .result)) out (g .put-text .last .1 .1 .1 .0) (g .put-text .result) k l (g .put-text .kept .1 .1 .1 .0), l ∙ ap (λ (x : List ℕ). x ++ drop (g .put-text .result) out) e)),
+      (k ∙ ap length e, (text-fits (textOf (f .accept .last .1 .1 .0) (f .accept .result)) out (g .put-text .last .1 .1 .0) (g .put-text .result) k l (g .put-text .kept .1 .1 .0), l ∙ ap (λ (x : List ℕ). x ++ drop (g .put-text .result) out) e)),
     )
 
 pub put-line-spec : {M : Type 1} → statement M

@@ -6,10 +6,10 @@ use Rattle.peaklines.proofs.inner.put_lines_in.Statement.{statement}
 use Rattle.peaklines.proofs.inner.put_lines_in.Tie as tie
 
 abbrev start : tie.After-find-apexes → tie.Start
-start f = f .before .before .before .before .before .before .before .before .before .before
+start f = f .before .before .before .before .before .before .before .before .before
 
 find-apexes-requires : tie.Need-find-apexes-requires
-find-apexes-requires c κs = c .before .before .before .before .before .before .before .before .before .pre .1
+find-apexes-requires c κs = c .before .before .before .before .before .before .before .before .pre .1
 
 put-peak-lines-requires : tie.Need-put-peak-lines-requires
 put-peak-lines-requires c κs = let f = c .before .before .before .before .before .before .before .before in

@@ -14,7 +14,7 @@ slice-aggregate-put-lines-in-3 : tie.Need-slice-aggregate-put-lines-in-3
 slice-aggregate-put-lines-in-3 c = search needs
 
 put-lines-in-requires : tie.Need-put-lines-in-requires
-put-lines-in-requires c κs = let s = c .before .before .before .before .before .before .before in
+put-lines-in-requires c κs = let s = c .before .before .before .before .before .before in
     (s .pre .0, searchable 1024 800 4096 (s .pre .0) (s .pre .1) (s .pre .2) (omega arith) (omega arith))
 
 same-length : tie.Need-same-length

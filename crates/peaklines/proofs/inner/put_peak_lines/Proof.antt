@@ -3,23 +3,24 @@ use mathlib.Core.List.{List, []}
 use Prim.Native.Nat.{ℕ, _≤_, _-_}
 use native.Mathlib.Omega.{arith}
 use borrow.Author.Needs.{needs}
-use lib.ListN.{length}
+use lib.ListN.{length, replicate, length-replicate}
 use Rattle.params.specs.declared.RowPlace.{RowPlace}
 use Rattle.params.specs.declared.FrameBounds.{FrameBounds}
 use Rattle.rowsearch.specs.Found.{Standing, oldest}
 use Rattle.rowsearch.proofs.Laws.{next, none-yet, all-now}
 use Rattle.row.specs.Row.{peakOf}
 use Rattle.row.proofs.Laws.{read-inside, read-is}
-use Rattle.peaklines.specs.RowLines.{placeOf, noFrames, Printed}
-use Rattle.peaklines.proofs.Laws.{lines-most, printed-none, next-printed}
+use Rattle.peaklines.specs.RowLines.{placeOf, noFrames, printedPeak, Printed}
+use Rattle.row.specs.declared.inner.OnAxes.{OnAxes}
+use Rattle.peaklines.proofs.Laws.{lines-most, printed-none, next-printed, on-zeros, on-none}
 use Rattle.peaklines.proofs.inner.put_peak_lines.Statement.{statement}
 use Rattle.peaklines.proofs.inner.put_peak_lines.Tie as tie
 
 abbrev Inv-loop : tie.InvT-loop
-Inv-loop found n y tof-row axis out₀ place bounds at₀ j₀ out at j = (j ≤ n) × (length out ≡ length out₀) × ((ks : List ℕ) → Standing y y found n ks → Printed tof-row axis y out₀ out at (oldest j ks))
+Inv-loop found n y tof-row out₀ place bounds on at₀ j₀ out at j = (j ≤ n) × (length out ≡ length out₀) × ((ks : List ℕ) → Standing y y found n ks → Printed tof-row y out₀ out at (oldest j ks))
 
 abbrev μ-loop : tie.MeasureT-loop
-μ-loop found n y tof-row axis out₀ place bounds at₀ j₀ out at j = n - j
+μ-loop found n y tof-row out₀ place bounds on at₀ j₀ out at j = n - j
 
 place-of-requires : tie.Need-place-of-requires Inv-loop μ-loop
 place-of-requires c κs = search needs
@@ -27,40 +28,39 @@ place-of-requires c κs = search needs
 no-frames-requires : tie.Need-no-frames-requires Inv-loop μ-loop
 no-frames-requires c κs = search needs
 
+no-axes-requires : tie.Need-no-axes-requires Inv-loop μ-loop
+no-axes-requires c κs = search needs
+
 loop-holds : tie.Need-loop-holds Inv-loop μ-loop
 loop-holds c = let x = c .before .before .before .before .before .before .args in
-    (omega arith, refl, (λ ks h. rw (none-yet ks) (printed-none (x .tof-row) (x .axis .now) (x .y .now) (x .out .now))))
+    (omega arith, refl, (λ ks h. rw (none-yet ks) (printed-none (x .tof-row) (x .y .now) (x .out .now))))
 
 measured-at-requires : tie.Need-measured-at-requires Inv-loop μ-loop
 measured-at-requires c κs = let s = c .before .before .before .before .before .before .before .before in
     let r = s .pre .2 .1 .room in omega arith
 
-slice-aggregate-peak-of : tie.Need-slice-aggregate-peak-of Inv-loop μ-loop
-slice-aggregate-peak-of c = search needs
-
-peak-of-requires : tie.Need-peak-of-requires Inv-loop μ-loop
-peak-of-requires c κs = let a = c .before in
-    let l = a .before .before in
+peak-on-requires : tie.Need-peak-on-requires Inv-loop μ-loop
+peak-on-requires c κs = let l = c .before .before in
     let s = l .before .before .before .before .before .before .before in
     let x = s .args in
     let ks = s .pre .2 .0 in
     let t = s .pre .2 .1 in
-    let r = s .pre .0 in
-    read-inside (x .y .now) (x .y .now) (x .axis .now) (x .found .now) ks (l .loop .j) (a .measured-at .result)
-    (next (x .y .now) (x .y .now) (x .found .now) ks (l .loop .j) (omega (arith, t .count)) (t .stand)) (a .measured-at .ensures) refl (r .scans) (omega (arith, r .short))
+    let r = read-inside (x .y .now) (x .y .now) (replicate (length (x .y .now)) 0) (x .found .now) ks (l .loop .j) (c .measured-at .result)
+    (next (x .y .now) (x .y .now) (x .found .now) ks (l .loop .j) (omega (arith, t .count)) (t .stand)) (c .measured-at .ensures) refl (length-replicate (length (x .y .now)) 0) (omega (arith, s .pre .0 .short)) in
+    (r .low, r .high, refl, r .short, omega (arith, ap (λ (o : OnAxes). o .flag) (l .before .no-axes .ensures)))
 
 append-line-requires : tie.Need-append-line-requires Inv-loop μ-loop
-append-line-requires c κs = let l = c .before .before .before .before .before in
+append-line-requires c κs = let l = c .before .before .before .before in
     let s = l .before .before .before .before .before .before .before in
     let x = s .args in
     let ks = s .pre .2 .0 in
     let t = s .pre .2 .1 in
     let j = l .loop .j in
     let k = next (x .y .now) (x .y .now) (x .found .now) ks j (omega (arith, t .count)) (t .stand) in
-    omega (arith, l .loop .inv .2 ks t .count, lines-most (x .tof-row) (x .axis .now) (x .y .now) (oldest j ks), k .count, l .loop .inv .1, s .pre .1, s .pre .0 .bytes)
+    omega (arith, l .loop .inv .2 ks t .count, lines-most (x .tof-row) (x .y .now) (oldest j ks), k .count, l .loop .inv .1, s .pre .1, s .pre .0 .bytes)
 
 add-j : tie.Need-add-j Inv-loop μ-loop
-add-j c = let l = c .before .before .before .before .before .before .before .before in
+add-j c = let l = c .before .before .before .before .before .before .before in
     let s = l .before .before .before .before .before .before .before in
     let few = s .pre .1 in omega (arith, s .pre .0 .short)
 
@@ -70,25 +70,28 @@ loop-less c = search needs
 loop-again : tie.Need-loop-again Inv-loop μ-loop
 loop-again c = let w = c .before .before in
     let q = w .before .before in
-    let a = q .before .before in
+    let a = q .before in
     let l = a .before .before in
     let s = l .before .before .before .before .before .before .before in
     let x = s .args in
     let y = x .y .now in
-    let axis = x .axis .now in
+    let none = replicate {A = ℕ} (length y) 0 in
     let j = l .loop .j in
     let inv = l .loop .inv in
     let i = a .measured-at .result .index in
-    let e : q .peak-of .result ≡ peakOf (placeOf (x .tof-row)) noFrames [] axis y y i 0 =
-    q .peak-of .ensures
-    ∙ ap (λ (r : RowPlace). peakOf r (l .before .no-frames .result) [] axis y y i 0) (l .before .before .place-of .ensures)
-    ∙ ap (λ (f : FrameBounds). peakOf (placeOf (x .tof-row)) f [] axis y y i 0) (l .before .no-frames .ensures) in (
+    let ks₀ = s .pre .2 .0 in
+    let t = s .pre .2 .1 in
+    let r = read-inside y y none (x .found .now) ks₀ j (a .measured-at .result) (next y y (x .found .now) ks₀ j (omega (arith, t .count)) (t .stand)) (a .measured-at .ensures) refl (length-replicate (length y) 0) (omega (arith, s .pre .0 .short)) in
+    let e : q .peak-on .result ≡ peakOf (placeOf (x .tof-row)) noFrames [] none y y i 0 =
+    q .peak-on .ensures [] none r (l .before .no-axes .ensures ∙ on-zeros (length y) (a .measured-at .result))
+    ∙ ap (λ (r : RowPlace). peakOf r (l .before .before .no-frames .result) [] none y y i 0) (l .before .before .before .place-of .ensures)
+    ∙ ap (λ (f : FrameBounds). peakOf (placeOf (x .tof-row)) f [] none y y i 0) (l .before .before .no-frames .ensures) in (
       omega arith,
       w .append-line .kept .0 ∙ inv .1,
       (λ ks h.
           let n = next y y (x .found .now) ks j (omega (arith, h .count)) (h .stand) in
-          next-printed (x .tof-row) axis y (x .found .now) ks (x .out .now) (l .loop .out) (w .append-line .last .0) j (l .loop .at) (w .append-line .result) (q .peak-of .result) n (inv .2 ks h)
-          (e ∙ ap (λ (k : ℕ). peakOf (placeOf (x .tof-row)) noFrames [] axis y y k 0) (read-is y y axis (x .found .now) ks j (a .measured-at .result) n (a .measured-at .ensures)))
+          next-printed (x .tof-row) y (x .found .now) ks (x .out .now) (l .loop .out) (w .append-line .last .0) j (l .loop .at) (w .append-line .result) (q .peak-on .result) n (inv .2 ks h)
+          (e ∙ on-none (x .tof-row) y i ∙ ap (λ (k : ℕ). printedPeak (x .tof-row) y k) (read-is y y none (x .found .now) ks j (a .measured-at .result) n (a .measured-at .ensures)))
           (w .append-line .ensures .0)
           (w .append-line .ensures .1)),
     )
@@ -110,10 +113,10 @@ put-peak-lines-spec =
     μ-loop
     place-of-requires
     no-frames-requires
+    no-axes-requires
     loop-holds
     measured-at-requires
-    slice-aggregate-peak-of
-    peak-of-requires
+    peak-on-requires
     append-line-requires
     add-j
     loop-less

@@ -15,14 +15,14 @@ reaches-floor-requires c κs = search needs
 returns : tie.Need-returns
 unfolding linesOf
 returns c = let f = c .before in
-    let x = f .before .before .before .before .args in
+    let x = f .before .before .before .args in
     let e : kept (x .p) (x .y .now) (x .y .now) ≡ [] = kept-low (x .p) (x .y .now) (x .y .now) (sym (f .reaches-floor .ensures) ∙ not-true _ (c .if1 .taken)) in
     rw e (refl, refl)
 
 put-lines-in-64-requires : tie.Need-put-lines-in-64-requires
 put-lines-in-64-requires c κs = let e = c .before .before in
     let r = e .before in
-    let s = r .before .before .before .before in
+    let s = r .before .before .before in
     (s .pre, sym (r .reaches-floor .ensures) ∙ not-false (r .reaches-floor .result) (e .if1 .left), omega (arith, s .pre .short))
 
 same-length : tie.Need-same-length
@@ -34,7 +34,7 @@ returns-2 c = search needs
 put-lines-in-1024-requires : tie.Need-put-lines-in-1024-requires
 put-lines-in-1024-requires c κs = let e = c .before .before .before in
     let r = e .before in
-    let s = r .before .before .before .before in
+    let s = r .before .before .before in
     (s .pre, sym (r .reaches-floor .ensures) ∙ not-false (r .reaches-floor .result) (e .if1 .left), omega (arith, s .pre .short))
 
 same-length-2 : tie.Need-same-length-2
@@ -46,7 +46,7 @@ returns-3 c = search needs
 put-lines-in-4096-requires : tie.Need-put-lines-in-4096-requires
 put-lines-in-4096-requires c κs = let e = c .before .before .before in
     let r = e .before in
-    let s = r .before .before .before .before in
+    let s = r .before .before .before in
     (s .pre, sym (r .reaches-floor .ensures) ∙ not-false (r .reaches-floor .result) (e .if1 .left), omega (arith, s .pre .short))
 
 same-length-3 : tie.Need-same-length-3

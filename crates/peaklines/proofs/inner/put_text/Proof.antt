@@ -14,9 +14,9 @@ enum-known-v c = search needs
 
 put-row-requires : tie.Need-put-row-requires
 put-row-requires c κs =
-    let s = c .before .before .before .before .before .before .before in
+    let s = c .before .before .before .before .before .before in
     let v = c .before .before .v in
-    (s .pre .0 (v .given .0 .0) (v .given .1), s .pre .1, s .pre .2, s .pre .3)
+    (s .pre .0 (v .given .0 .0) (v .given .1), s .pre .1, s .pre .2)
 
 enum-told-2 : tie.Need-enum-told-2
 enum-told-2 c = search needs

@@ -16,7 +16,7 @@ ends-in-cr-requires : tie.Need-ends-in-cr-requires
 ends-in-cr-requires c κs = search needs
 
 sub-n : tie.Need-sub-n
-sub-n c = let x = c .before .before .before .before .before .before .args .text .now in omega (arith, cr-some x (sym (c .before .ends-in-cr .ensures) ∙ c .if1 .taken))
+sub-n c = let x = c .before .before .before .before .before .args .text .now in omega (arith, cr-some x (sym (c .before .ends-in-cr .ensures) ∙ c .if1 .taken))
 
 slice-aggregate-put-line : tie.Need-slice-aggregate-put-line
 slice-aggregate-put-line c = simp length-take (omega arith)
@@ -35,7 +35,7 @@ same-length-2 c = search needs
 
 returns : tie.Need-returns
 returns c =
-    let s = c .before .before .before .before .before .before .before .before .before .before .before .before .before .before .before in
+    let s = c .before .before .before .before .before .before .before .before .before .before .before .before .before .before in
     let x = s .args .text .now in
     let p = c .before .before .before .before .before .put-line in
     let e = p .ensures in
@@ -43,7 +43,7 @@ returns c =
     let k = p .result .used in
     let r : c .after-line .result ≡ afterLine (s .args .s) v (length x + 1) k = c .after-line .ensures in
     let cr = sym (c .before .before .before .before .before .before .before .before .before .before .ends-in-cr .ensures) ∙ c .before .before .before .before .before .before .before .before .before .if1 .taken in
-    rw r (put-ended (s .args .s) x (s .pre .0) (s .args .out .now) (p .last .1 .1 .1 .1 .0) k (e .1 .1 .0) cr v (e .0) (e .1 .0) (e .1 .1 .1), after-from (s .args .s) v (length x + 1) k)
+    rw r (put-ended (s .args .s) x (s .pre .0) (s .args .out .now) (p .last .1 .1 .1 .0) k (e .1 .1 .0) cr v (e .0) (e .1 .0) (e .1 .1 .1), after-from (s .args .s) v (length x + 1) k)
 
 put-refusal-requires : tie.Need-put-refusal-requires
 put-refusal-requires c κs = search needs
@@ -56,7 +56,7 @@ same-length-3 c = search needs
 
 returns-2 : tie.Need-returns-2
 returns-2 c =
-    let s = c .before .before .before .before .before .before .before .before .before .before .before in
+    let s = c .before .before .before .before .before .before .before .before .before .before in
     let x = s .args .text .now in
     let p = c .before .before .before .put-refusal in
     let r : c .after-line2 .result ≡ afterLine (s .args .s) Verdict.Refused (length x + 1) (p .result) = c .after-line2 .ensures in

@@ -16,7 +16,7 @@ same-length-2 c = search needs
 
 returns : tie.Need-returns
 returns c =
-    let s = c .before .before .before .before .before .before .before .before .before .before .before .before in
+    let s = c .before .before .before .before .before .before .before .before .before .before .before in
     let x = s .args .bytes .now in
     let p = c .before .before .before .before .put-line in
     let e = p .ensures in
@@ -36,14 +36,14 @@ same-length-3 c = search needs
 
 returns-2 : tie.Need-returns-2
 returns-2 c =
-    let s = c .before .before .before .before .before .before .before .before .before .before .before in
+    let s = c .before .before .before .before .before .before .before .before .before .before in
     let p = c .before .before .put-refusal in
     let t = text-none (s .args .bytes .now) (omega (arith, c .before .before .before .before .before .before .if1 .left)) in
     rw (c .before .before .before .before .enum-told .given .1, t .0) (p .ensures .0, (omega (arith, p .ensures .0), p .ensures .1))
 
 returns-3 : tie.Need-returns-3
 returns-3 c =
-    let s = c .before .before .before .before .before .before .before in
+    let s = c .before .before .before .before .before .before in
     let t = text-none (s .args .bytes .now) (omega (arith, c .before .before .if1 .left)) in
     rw (c .enum-told2 .given .1, t .1 (c .enum-told2 .given .0 .0)) (refl, (omega arith, refl))
 

@@ -1,0 +1,2 @@
+-- What the contracts of `linefault` cite.
+pub mod Faults

@@ -1,0 +1,2 @@
+-- What the proofs of `tablejob` share.
+pub mod Laws

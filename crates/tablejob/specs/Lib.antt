@@ -1,0 +1,2 @@
+-- What the contracts of `tablejob` cite.
+pub mod Stands
