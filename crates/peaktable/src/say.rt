@@ -96,7 +96,7 @@ fn say_fault(s: Progress, f: Fault) {
 }
 
 // Which input line is refused, and why.
-pub fn refused(s: Progress, f: Fault) {
+pub(crate) fn refused(s: Progress, f: Fault) {
     say(b"peaktable: refused, input line ");
     say_number(line_number(s));
     say(b": ");
@@ -104,10 +104,10 @@ pub fn refused(s: Progress, f: Fault) {
     say(b"\n");
 }
 
-pub fn cannot_read() {
+pub(crate) fn cannot_read() {
     say(b"peaktable: failed, the input cannot be read\n");
 }
 
-pub fn cannot_write() {
+pub(crate) fn cannot_write() {
     say(b"peaktable: failed, the table cannot be written\n");
 }
