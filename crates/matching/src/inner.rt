@@ -3,7 +3,9 @@ use super::StitchParams;
 use record::ImPeak1D;
 ghost use mathlib.Core.Path.{_≡_};
 ghost use mathlib.Core.List.{List, [], _∷_};
-ghost use Prim.Native.Nat.{_-_};
+ghost use Prim.Native.Nat.{_≤_, _<_, _+_, _-_, _*_};
+ghost use lib.ListN.{length};
+ghost use Rattle.record.specs.Record.{size, peakAt};
 ghost use Rattle.record.specs.declared.ImPeak1D.{ImPeak1D as PeakT};
 ghost use Rattle.matching.specs.Matching.{soundStitch, samples, overlap, jaccardF, enoughCommon, atMost, groupOf, isSame};
 ghost use Rattle.matching.specs.Matching.{sameGroup, rowsNear, framesOverlap, scansOverlap, inside, apexesInside, compatible};
@@ -227,9 +229,66 @@ pub fn spans_ok(s: Spans, p: StitchParams) -> bool
         & at_most(p.max_scan_delta, above(s.max_scan, s.min_scan))
 }
 
-// Whether a group with these spans, whose newest member is `last`, may take in p.
-pub fn joins(last: ImPeak1D, s: Spans, p: ImPeak1D, params: StitchParams) -> bool
-    ensures { λ r. ⌜ ((ps : List PeakT) → Covers s (last ∷ ps) → r ≡ mayJoin params (last ∷ ps) p) ⌝ }
+// The tests of the peaks at places k - 1 and k of a list. Each reads its peaks itself, so that only the words that it looks at are read, and
+// only if it is asked.
+fn same_group_at(list: &[u32], k: usize, params: StitchParams) -> bool
+    requires { ⌜ (0 < k) × (k * size + size ≤ length (now list)) ⌝ }
+    ensures { λ r. ⌜ r ≡ sameGroup params (peakAt (now (list .entry)) (k - 1)) (peakAt (now (list .entry)) k) ⌝ }
 {
-    compatible_fast(last, p, params) & spans_ok(widened(s, p), params)
+    same_group(
+        params,
+        record::inner::peak_at(list, k - 1),
+        record::inner::peak_at(list, k),
+    )
+}
+
+fn frames_overlap_at(list: &[u32], k: usize, params: StitchParams) -> bool
+    requires { ⌜ (0 < k) × (k * size + size ≤ length (now list)) ⌝ }
+    ensures { λ r. ⌜ r ≡ framesOverlap params (peakAt (now (list .entry)) (k - 1)) (peakAt (now (list .entry)) k) ⌝ }
+{
+    frames_overlap(
+        params,
+        record::inner::peak_at(list, k - 1),
+        record::inner::peak_at(list, k),
+    )
+}
+
+fn scans_overlap_at(list: &[u32], k: usize, params: StitchParams) -> bool
+    requires { ⌜ (0 < k) × (k * size + size ≤ length (now list)) ⌝ }
+    ensures { λ r. ⌜ r ≡ scansOverlap params (peakAt (now (list .entry)) (k - 1)) (peakAt (now (list .entry)) k) ⌝ }
+{
+    scans_overlap(
+        params,
+        record::inner::peak_at(list, k - 1),
+        record::inner::peak_at(list, k),
+    )
+}
+
+fn apexes_inside_at(list: &[u32], k: usize, params: StitchParams) -> bool
+    requires { ⌜ (0 < k) × (k * size + size ≤ length (now list)) ⌝ }
+    ensures { λ r. ⌜ r ≡ apexesInside params (peakAt (now (list .entry)) (k - 1)) (peakAt (now (list .entry)) k) ⌝ }
+{
+    apexes_inside(
+        params,
+        record::inner::peak_at(list, k - 1),
+        record::inner::peak_at(list, k),
+    )
+}
+
+// Whether a group with these spans, whose newest member is the peak before place k of a list, may take in that at place k. The rows of the
+// two lie no further apart than those of the whole group.
+pub fn joins_at(list: &[u32], k: usize, s: Spans, params: StitchParams) -> bool
+    requires { ⌜ (0 < k) × (k * size + size ≤ length (now list)) ⌝ }
+    ensures { λ r. ⌜ ((ps : List PeakT) → Covers s (peakAt (now (list .entry)) (k - 1) ∷ ps) → r ≡ mayJoin params (peakAt (now (list .entry)) (k - 1) ∷ ps) (peakAt (now (list .entry)) k)) ⌝ }
+{
+    if spans_ok(widened(s, record::inner::peak_at(list, k)), params) {
+        if same_group_at(list, k, params) {
+            if frames_overlap_at(list, k, params) {
+                if scans_overlap_at(list, k, params) {
+                    return apexes_inside_at(list, k, params);
+                }
+            }
+        }
+    }
+    false
 }
