@@ -25,8 +25,8 @@ samples-requires-2 c κs = search needs
 of-u32-requires-3 : tie.Need-of-u32-requires-3
 of-u32-requires-3 c κs = search needs
 
-max-requires : tie.Need-max-requires
-max-requires c κs = search needs
+at-least-one-requires : tie.Need-at-least-one-requires
+at-least-one-requires c κs = search needs
 
 returns-2 : tie.Need-returns-2
 unfolding jaccardF
@@ -34,7 +34,7 @@ returns-2 c = let second = c .before .before in
     let first = second .before .before in
     let test = first .before in
     let common = test .before in
-    rw (c .max .ensures, c .before .of-u323 .ensures, second .samples2 .ensures, second .before .of-u322 .ensures, first .samples .ensures, ← common .before .overlap .ensures, ← common .of-u32 .ensures, test .if1 .left)
+    rw (c .at-least-one .ensures, c .before .of-u323 .ensures, second .samples2 .ensures, second .before .of-u322 .ensures, first .samples .ensures, ← common .before .overlap .ensures, ← common .of-u32 .ensures, test .if1 .left)
 
 pub jaccard-spec : {M : Type 1} → statement M
 jaccard-spec =
@@ -47,5 +47,5 @@ jaccard-spec =
     of-u32-requires-2
     samples-requires-2
     of-u32-requires-3
-    max-requires
+    at-least-one-requires
     returns-2)
