@@ -1,2 +1,3 @@
 -- What the proofs of functions cite.
 pub mod Joining
+pub mod Shares

@@ -82,7 +82,7 @@ pub fn jaccard(lo_a: u32, hi_a: u32, lo_b: u32, hi_b: u32) -> f32
 }
 
 // Whether two intervals have at least `least` samples in common, and at least the share, if that is above 0.
-fn enough_common(least: u32, share: f32, lo_a: u32, hi_a: u32, lo_b: u32, hi_b: u32) -> bool
+fn enough_shared(least: u32, share: f32, lo_a: u32, hi_a: u32, lo_b: u32, hi_b: u32) -> bool
     ensures { λ r. ⌜ r ≡ enoughCommon least share «lo_a» «hi_a» «lo_b» «hi_b» ⌝ }
 {
     if least <= overlap(lo_a, hi_a, lo_b, hi_b) {
@@ -92,6 +92,17 @@ fn enough_common(least: u32, share: f32, lo_a: u32, hi_a: u32, lo_b: u32, hi_b: 
         return true;
     }
     false
+}
+
+// The same, with a short way for two intervals that are one: their share is 1.
+fn enough_common(least: u32, share: f32, lo_a: u32, hi_a: u32, lo_b: u32, hi_b: u32) -> bool
+    ensures { λ r. ⌜ r ≡ enoughCommon least share «lo_a» «hi_a» «lo_b» «hi_b» ⌝ }
+{
+    let same = (lo_a == lo_b) & (hi_a == hi_b) & (lo_a <= hi_a) & (share <= 1.0);
+    if same {
+        return least <= samples(lo_a, hi_a);
+    }
+    enough_shared(least, share, lo_a, hi_a, lo_b, hi_b)
 }
 
 // A window group: whether it is there, 1 or 0, and its number, 0 for a missing one.

@@ -1,9 +1,10 @@
-use mathlib.Core.Path.{_≡_, refl}
+use mathlib.Core.Path.{_≡_, refl, sym}
 use mathlib.Core.Bool.{Bool, true, false, cond}
 use lib.Ieee.{Float, lt, le, isNan, ofBits}
 use Rattle.numeric.specs.Arith.{𝟏}
 use Rattle.numeric.specs.Numeric.{maxF}
-use Rattle.numeric.proofs.Order.{le-no-nan, le-not-lt, not-le}
+use Rattle.numeric.proofs.Order.{not-le}
+use Rattle.matching.proofs.Shares.{max-above}
 use Rattle.matching.proofs.inner.at_least_one.Statement.{statement}
 use Rattle.matching.proofs.inner.at_least_one.Tie as tie
 
@@ -20,8 +21,7 @@ low u h = go (isNan u) refl
     go false e = rw (not-le 𝟏 u one-is-number e h)
 
 returns : tie.Need-returns
-unfolding maxF
-returns c = let h = c .if1 .taken in let u = c .before .args .u in rw (le-no-nan 𝟏 u h .1, le-not-lt u 𝟏 h)
+returns c = sym (max-above (c .before .args .u) 𝟏 (c .if1 .taken))
 
 returns-2 : tie.Need-returns-2
 returns-2 c = low (c .before .args .u) (c .if1 .left)

@@ -1,27 +1,20 @@
-use borrow.Author.Tests.{le-leb, lt-leb}
 use borrow.Author.Needs.{needs}
-use Rattle.matching.specs.Matching.{enoughCommon}
+use Rattle.matching.proofs.Shares.{enough-same}
 use Rattle.matching.proofs.inner.enough_common.Statement.{statement}
 use Rattle.matching.proofs.inner.enough_common.Tie as tie
 
-overlap-requires : tie.Need-overlap-requires
-overlap-requires c κs = search needs
-
-jaccard-requires : tie.Need-jaccard-requires
-jaccard-requires c κs = search needs
+samples-requires : tie.Need-samples-requires
+samples-requires c κs = search needs
 
 returns : tie.Need-returns
-unfolding enoughCommon
-returns c = rw (← c .before .before .before .overlap .ensures, le-leb _ _ (c .before .before .if1 .taken), c .before .if2 .taken, ← c .jaccard .ensures)
+returns c = let a = c .before .before .args in
+    rw (c .samples .ensures) (enough-same (a .least) (a .share) (a .lo-a) (a .hi-a) (a .lo-b) (a .hi-b) (c .before .if1 .taken))
+
+enough-shared-requires : tie.Need-enough-shared-requires
+enough-shared-requires c κs = search needs
 
 returns-2 : tie.Need-returns-2
-unfolding enoughCommon
-returns-2 c = rw (← c .before .before .overlap .ensures, le-leb _ _ (c .before .if1 .taken), c .if2 .left)
-
-returns-3 : tie.Need-returns-3
-unfolding enoughCommon
-returns-3 c = rw (← c .before .overlap .ensures, lt-leb _ _ (c .if1 .left))
+returns-2 c = search needs
 
 pub enough-common-spec : {M : Type 1} → statement M
-enough-common-spec =
-    tie.close (tie.spec overlap-requires jaccard-requires returns returns-2 returns-3)
+enough-common-spec = tie.close (tie.spec samples-requires returns enough-shared-requires returns-2)
