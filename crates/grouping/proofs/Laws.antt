@@ -1,12 +1,12 @@
 -- The walk over the places, step by step.
 use mathlib.Core.Path.{_≡_, refl, sym, ap, _∙_}
-use mathlib.Core.Bool.{true, false, _&&_}
-use mathlib.Core.List.{List, [], _∷_, _++_, map, reverse, reverseAux, reverse-cons, foldl, foldl-append, append-assoc, map-append}
-use Prim.Native.Nat.{ℕ, _+_, _-_, _*_, _<_, _≤_}
+use mathlib.Core.Bool.{Bool, true, false, _&&_}
+use mathlib.Core.List.{List, [], _∷_, _++_, map, reverse, reverse-cons, foldl-append, append-assoc, append-nil, map-append}
+use Prim.Native.Nat.{ℕ, suc, _+_, _-_, _*_, _<_, _≤_}
 use native.Mathlib.Omega.{arith}
 use native.Mathlib.Numerals.{add-one}
-use lib.ListN.{length, getD, take, drop, set, length-append, length-map, drop-of-length-le}
-use lib.Seq.{drop-cons, take-at, drop-append-add, drop-drop}
+use lib.ListN.{length, getD, take, drop, set, length-append, length-map, length-drop, drop-of-length-le}
+use lib.Seq.{take-suc, getD-drop, drop-cons, take-at, drop-append-add, drop-drop}
 use borrow.Author.Tests.{eqb-true}
 use lib.Dec.{eqb}
 use Rattle.refusal.proofs.Bools.{both}
@@ -15,23 +15,17 @@ use Rattle.record.specs.declared.ImPeak1D.{ImPeak1D}
 use Rattle.peaklist.specs.PeakList.{nth, listWords}
 use Rattle.peaklist.proofs.PeakListLaws.{words-length, words-one}
 use Rattle.matching.specs.declared.StitchParams.{StitchParams}
+use Rattle.matching.specs.declared.inner.Spans.{Spans}
+use Rattle.matching.specs.Group.{Covers, mayJoin}
 use Rattle.keys.specs.declared.KeyRule.{KeyRule}
 use Rattle.keys.specs.declared.inner.Bucket.{Bucket}
 use Rattle.keys.specs.Keys.{isSameBucket}
 use Rattle.merging.specs.Merging.{merged}
-use Rattle.grouping.specs.declared.inner.Open.{Open}
 use Rattle.grouping.specs.Grouping.{bucketBy, peaksAt, follows, groupsFrom, groups, groupPeaks}
-use Rattle.grouping.specs.Walk.{Opens, numbered, marked}
+use Rattle.grouping.specs.Walk.{part, Cut, numbered, marked, Grouped}
 use Rattle.grouping.proofs.GroupingLaws.{groups-join, groups-close}
 
 -- ---- lists
-
-pub map-reverse : {A B : Type 0} (f : A → B) (l : List A) → map f (reverse l) ≡ reverse (map f l)
-map-reverse {A} {B} f l = go l []
-  where
-    go : (l r : List A) → map f (reverseAux l r) ≡ reverseAux (map f l) (map f r)
-    go [] r = refl
-    go (x ∷ l) r = go l (x ∷ r)
 
 -- words R put right behind the words P that a buffer d has been filled with
 pub fill-behind : {A : Type 0} (P R d out : List A) (a r : ℕ) → length P ≡ a → out ≡ P ++ drop a d
@@ -44,16 +38,20 @@ fill-behind P R d out a r h e =
 
 -- ---- groups
 
-module _ (rule : KeyRule) (params : StitchParams) (ps : List ImPeak1D) where
-  pub groups-none : (order : List ℕ) → length order ≡ 0 → groups rule params ps order ≡ []
-  unfolding groups
-  groups-none [] h = refl
-  groups-none (q ∷ qs) h = absurd (omega arith)
+pub groups-from : (rule : KeyRule) (params : StitchParams) (ps : List ImPeak1D) (q : ℕ) (qs : List ℕ) → groups rule params ps (q ∷ qs) ≡ groupsFrom rule params ps (q ∷ []) qs
+unfolding groups
+groups-from rule params ps q qs = refl
 
-  pub groups-start : (order : List ℕ) → 0 < length order → groups rule params ps order ≡ groupsFrom rule params ps (getD order 0 0 ∷ []) (drop 1 order)
-  unfolding groups
-  groups-start [] h = absurd (omega arith)
-  groups-start (q ∷ qs) h = refl
+-- whether a peak follows, from what the tests tell
+pub follows-told : (rule : KeyRule) (params : StitchParams) (q : ImPeak1D) (qs : List ImPeak1D) (p : ImPeak1D) (b : Bucket) (x y : Bool)
+    → b ≡ bucketBy rule q → x ≡ isSameBucket b (bucketBy rule p) → y ≡ mayJoin params (q ∷ qs) p → follows rule params (q ∷ qs) p ≡ x && y
+unfolding follows
+follows-told rule params q qs p b x y e f g = rw (f, e, g)
+
+-- a peak that follows is of the same bucket
+in-one : (rule : KeyRule) (params : StitchParams) (q : ImPeak1D) (qs : List ImPeak1D) (p : ImPeak1D) → follows rule params (q ∷ qs) p ≡ true → isSameBucket (bucketBy rule q) (bucketBy rule p) ≡ true
+unfolding follows
+in-one rule params q qs p h = both (isSameBucket (bucketBy rule q) (bucketBy rule p)) h .0
 
 -- ---- what is written of one more
 
@@ -66,9 +64,9 @@ pub groups-words : (ps : List ImPeak1D) (gs : List (List ℕ)) → length (listW
 unfolding groupPeaks
 groups-words ps gs = words-length (map (λ h. merged (peaksAt ps h)) gs) ∙ ap (λ (n : ℕ). n * size) (length-map gs (λ h. merged (peaksAt ps h)))
 
-pub numbered-one : (k : ℕ) (g : List ℕ) (q : ℕ) (column : List ℕ) → numbered k (reverse (q ∷ g)) column ≡ set (numbered k (reverse g) column) q k
+pub numbered-one : (k : ℕ) (g : List ℕ) (q : ℕ) (column : List ℕ) → numbered k (g ++ (q ∷ [])) column ≡ set (numbered k g column) q k
 unfolding numbered
-numbered-one k g q column = ap (λ (qs : List ℕ). foldl (λ so p. set so p k) column qs) (reverse-cons q g) ∙ foldl-append (λ so p. set so p k) column (reverse g) (q ∷ [])
+numbered-one k g q column = foldl-append (λ so p. set so p k) column g (q ∷ [])
 
 pub marked-one : (k : ℕ) (gs : List (List ℕ)) (g column : List ℕ) → marked k (gs ++ (g ∷ [])) column ≡ numbered (k + length gs) g (marked k gs column)
 unfolding marked
@@ -77,7 +75,25 @@ marked-one k (f ∷ gs) g column =
     let e : k + 1 + length gs ≡ k + length (f ∷ gs) = omega arith in
     marked-one (k + 1) gs g (numbered k f column) ∙ ap (λ (n : ℕ). numbered n g (marked (k + 1) gs (numbered k f column))) e
 
--- ---- the walk
+-- ---- parts of an order
+
+pub part-none : (order : List ℕ) (i : ℕ) → part order i i ≡ []
+unfolding part
+part-none order i = let e : i - i ≡ 0 = omega arith in rw e
+
+pub part-more : (order : List ℕ) (i k : ℕ) → i ≤ k → k < length order → part order i (k + 1) ≡ part order i k ++ (getD order k 0 ∷ [])
+unfolding part
+part-more order i k h l =
+    let e : k + 1 - i ≡ suc (k - i) = omega arith in
+    let at : i + (k - i) ≡ k = omega arith in
+    ap (λ (n : ℕ). take n (drop i order)) e
+    ∙ take-suc (drop i order) (k - i) 0 (omega (arith, length-drop i order))
+    ∙ ap (λ (q : ℕ). take (k - i) (drop i order) ++ (q ∷ [])) (getD-drop i order (k - i) 0 ∙ ap (λ (n : ℕ). getD order n 0) at)
+
+pub part-first : (order : List ℕ) (i : ℕ) → i < length order → part order i (i + 1) ≡ getD order i 0 ∷ []
+part-first order i l = part-more order i i (omega arith) l ∙ ap (λ (g : List ℕ). g ++ (getD order i 0 ∷ [])) (part-none order i)
+
+-- ---- where a group ends
 
 -- buckets that are the same one
 made : ℕ → ℕ → ℕ → ℕ → Bucket
@@ -95,120 +111,91 @@ same-bucket x y h =
     let i : x .rows ≡ y .rows = eqb-true (x .rows) (y .rows) (a .1) in
     let s : made (x .there) (x .group) (x .scans) (x .rows) ≡ made (y .there) (y .group) (y .scans) (y .rows) = rw (e, f, g, i) in s
 
--- a peak that follows is of the same bucket
-pub in-one : (rule : KeyRule) (params : StitchParams) (q : ImPeak1D) (qs : List ImPeak1D) (p : ImPeak1D) → follows rule params (q ∷ qs) p ≡ true → isSameBucket (bucketBy rule q) (bucketBy rule p) ≡ true
-unfolding follows
-in-one rule params q qs p h = both (isSameBucket (bucketBy rule q) (bucketBy rule p)) h .0
-
--- The walk has come to the i-th place: the groups `closed` are written, and the open one has the next number and the places
--- `last` and `older`, newest first.
-pub record Walked (rule : KeyRule) (params : StitchParams) (ps : List ImPeak1D) (order merged₀ column₀ : List ℕ) (i number : ℕ) (o : Open) (out column : List ℕ) : Type 0 where
-  pub closed : List (List ℕ)
-  pub last : ℕ
+-- The tests have come to the k-th place: the group that starts at the i-th goes on to there. Its newest member stands before the k-th place,
+-- the others are `older`, newest first.
+pub record Begun (rule : KeyRule) (params : StitchParams) (ps : List ImPeak1D) (order : List ℕ) (i k : ℕ) (b : Bucket) (s : Spans) : Type 0 where
   pub older : List ℕ
-  pub whole : groups rule params ps order ≡ closed ++ groupsFrom rule params ps (last ∷ older) (drop i order)
-  pub count : number ≡ length closed
-  pub newest : last ≡ getD order (i - 1) 0
-  pub opens : Opens rule o (nth ps last) (peaksAt ps older)
-  pub records : out ≡ listWords (groupPeaks ps closed) ++ drop (number * size) merged₀
-  pub marks : column ≡ numbered number (reverse (last ∷ older)) (marked 0 closed column₀)
+  pub whole : groups rule params ps (drop i order) ≡ groupsFrom rule params ps (getD order (k - 1) 0 ∷ older) (drop k order)
+  pub places : reverse (getD order (k - 1) 0 ∷ older) ≡ part order i k
+  pub bucket : b ≡ bucketBy rule (nth ps (getD order (k - 1) 0))
+  pub spans : Covers s (nth ps (getD order (k - 1) 0) ∷ peaksAt ps older)
 
-module _ (rule : KeyRule) (params : StitchParams) (ps : List ImPeak1D) (order merged₀ column₀ : List ℕ) where
-  pub walk-start : (o : Open) → 0 < length order → Opens rule o (nth ps (getD order 0 0)) []
-      → Walked rule params ps order merged₀ column₀ 1 0 o merged₀ (set column₀ (getD order 0 0) 0)
-  unfolding listWords groupPeaks numbered marked
-  walk-start o h k = record {
-    closed = [];
-    last = getD order 0 0;
+module _ (rule : KeyRule) (params : StitchParams) (ps : List ImPeak1D) (order : List ℕ) (i : ℕ) where
+  here : (k : ℕ) → getD order (k + 1 - 1) 0 ≡ getD order k 0
+  here k = let e : k + 1 - 1 ≡ k = omega arith in rw e
+
+  pub begun-first : (b : Bucket) (s : Spans) → i < length order → b ≡ bucketBy rule (nth ps (getD order i 0)) → Covers s (nth ps (getD order i 0) ∷ [])
+      → Begun rule params ps order i (i + 1) b s
+  begun-first b s l h k = record {
     older = [];
-    whole = groups-start rule params ps order h;
-    count = refl;
-    newest = refl;
-    opens = k;
-    records = refl;
-    marks = refl;
+    whole = ap (groups rule params ps) (drop-cons order i 0 l) ∙ rw (here i, add-one) (groups-from rule params ps (getD order i 0) (drop (suc i) order));
+    places = rw (here i) (sym (part-first order i l));
+    bucket = rw (here i) h;
+    spans = rw (here i) k;
   }
 
-  module _ (i number : ℕ) (o : Open) (out column : List ℕ) (w : Walked rule params ps order merged₀ column₀ i number o out column) where
-    group : List ℕ
-    group = w .last ∷ w .older
+  module _ (k : ℕ) (b : Bucket) (s : Spans) (w : Begun rule params ps order i k b s) (h : i < k) (l : k < length order) where
+    next : drop k order ≡ getD order k 0 ∷ drop (k + 1) order
+    next = rw (add-one, drop-cons order k 0)
 
-    closing : List (List ℕ)
-    closing = w .closed ++ (reverse group ∷ [])
+    abbrev last : ImPeak1D
+    last = nth ps (getD order (k - 1) 0)
 
-    -- with the open group closed
-    count-closed : number + 1 ≡ length closing
-    unfolding closing
-    count-closed = simp length-append (omega (arith, w .count))
+    pub begun-more : (s′ : Spans) → follows rule params (last ∷ peaksAt ps (w .older)) (nth ps (getD order k 0)) ≡ true
+        → Covers s′ (nth ps (getD order k 0) ∷ (last ∷ peaksAt ps (w .older))) → Begun rule params ps order i (k + 1) b s′
+    begun-more s′ f v = record {
+      older = getD order (k - 1) 0 ∷ w .older;
+      whole = rw (here k) (w .whole ∙ ap (groupsFrom rule params ps (getD order (k - 1) 0 ∷ w .older)) next ∙ groups-join rule params ps (getD order (k - 1) 0 ∷ w .older) (getD order k 0) (drop (k + 1) order) f);
+      places = rw (here k) (reverse-cons (getD order k 0) (getD order (k - 1) 0 ∷ w .older) ∙ ap (λ (g : List ℕ). g ++ (getD order k 0 ∷ [])) (w .places) ∙ sym (part-more order i k (omega arith) l));
+      bucket = rw (here k) (w .bucket ∙ same-bucket (bucketBy rule last) (bucketBy rule (nth ps (getD order k 0))) (in-one rule params last (peaksAt ps (w .older)) (nth ps (getD order k 0)) f));
+      spans = rw (here k) v;
+    }
 
-    marks-closed : column ≡ marked 0 closing column₀
-    unfolding closing group
-    marks-closed =
-        let e : number ≡ 0 + length (w .closed) = omega (arith, w .count) in
-        w .marks ∙ ap (λ (n : ℕ). numbered n (reverse group) (marked 0 (w .closed) column₀)) e ∙ sym (marked-one 0 (w .closed) (reverse group) column₀)
+    pub cut-before : follows rule params (last ∷ peaksAt ps (w .older)) (nth ps (getD order k 0)) ≡ false → Cut rule params ps order i k
+    cut-before f =
+        w .whole ∙ ap (groupsFrom rule params ps (getD order (k - 1) 0 ∷ w .older)) next
+        ∙ groups-close rule params ps (getD order (k - 1) 0 ∷ w .older) (getD order k 0) (drop (k + 1) order) f
+        ∙ rw (w .places, next) (ap (λ gs. part order i k ∷ gs) (sym (groups-from rule params ps (getD order k 0) (drop (k + 1) order))))
 
-    records-closed : withPeak out number (merged (reverse (peaksAt ps group))) ≡ listWords (groupPeaks ps closing) ++ drop ((number + 1) * size) merged₀
-    unfolding closing withPeak
-    records-closed =
-        let e : (number + 1) * size ≡ number * size + size = omega arith in
+  pub cut-end : (k : ℕ) (b : Bucket) (s : Spans) → Begun rule params ps order i k b s → length order ≤ k → Cut rule params ps order i k
+  unfolding groups groupsFrom
+  cut-end k b s w l = let e = drop-of-length-le order {i = k} l in rw e (rw (e, w .places) at (w .whole))
+
+-- ---- the walk
+
+-- The walk has come to the i-th place, before which the groups `closed` are written.
+pub record Walked (rule : KeyRule) (params : StitchParams) (ps : List ImPeak1D) (order merged₀ column₀ : List ℕ) (i number : ℕ) (out column : List ℕ) : Type 0 where
+  pub closed : List (List ℕ)
+  pub whole : groups rule params ps order ≡ closed ++ groups rule params ps (drop i order)
+  pub count : number ≡ length closed
+  pub records : out ≡ listWords (groupPeaks ps closed) ++ drop (number * size) merged₀
+  pub marks : column ≡ marked 0 closed column₀
+
+module _ (rule : KeyRule) (params : StitchParams) (ps : List ImPeak1D) (order merged₀ column₀ : List ℕ) where
+  pub walk-start : Walked rule params ps order merged₀ column₀ 0 0 merged₀ column₀
+  unfolding listWords groupPeaks marked
+  walk-start = record { closed = []; whole = refl; count = refl; records = refl; marks = refl }
+
+  module _ (i number : ℕ) (out column : List ℕ) (w : Walked rule params ps order merged₀ column₀ i number out column) where
+    pub walk-group : (k : ℕ) → Cut rule params ps order i k → (out′ : List ℕ) → out′ ≡ withPeak out number (merged (peaksAt ps (part order i k)))
+        → Walked rule params ps order merged₀ column₀ k (number + 1) out′ (numbered number (part order i k) column)
+    unfolding withPeak
+    walk-group k cut out′ e =
+        let g = part order i k in
         let f : length (listWords (groupPeaks ps (w .closed))) ≡ number * size = omega (arith, groups-words ps (w .closed), w .count) in
-        rw (e, groups-one ps (w .closed) (reverse group), map-reverse (nth ps) group)
-        (fill-behind (listWords (groupPeaks ps (w .closed))) (wordsOf (merged (reverse (peaksAt ps group)))) merged₀ out (number * size) size f (w .records))
-
-    module _ (o′ : Open) (h : i < length order) where
-      next : drop i order ≡ getD order i 0 ∷ drop (i + 1) order
-      next = rw (add-one, drop-cons order i 0)
-
-      behind : getD order i 0 ≡ getD order (i + 1 - 1) 0
-      behind = let e : i + 1 - 1 ≡ i = omega arith in rw e
-
-      pub walk-join : follows rule params (peaksAt ps (w .last ∷ w .older)) (nth ps (getD order i 0)) ≡ true
-          → Opens rule o′ (nth ps (getD order i 0)) (peaksAt ps (w .last ∷ w .older))
-          → Walked rule params ps order merged₀ column₀ (i + 1) number o′ out (set column (getD order i 0) number)
-      walk-join f k = record {
-        closed = w .closed;
-        last = getD order i 0;
-        older = w .last ∷ w .older;
-        whole = w .whole ∙ ap (λ (qs : List ℕ). w .closed ++ groupsFrom rule params ps (w .last ∷ w .older) qs) next ∙ ap (λ gs. w .closed ++ gs) (groups-join rule params ps (w .last ∷ w .older) (getD order i 0) (drop (i + 1) order) f);
-        count = w .count;
-        newest = behind;
-        opens = k;
-        records = w .records;
-        marks = ap (λ (l : List ℕ). set l (getD order i 0) number) (w .marks) ∙ sym (numbered-one number (w .last ∷ w .older) (getD order i 0) (marked 0 (w .closed) column₀));
-      }
-
-      pub walk-close : follows rule params (peaksAt ps (w .last ∷ w .older)) (nth ps (getD order i 0)) ≡ false
-          → Opens rule o′ (nth ps (getD order i 0)) []
-          → (out′ : List ℕ) → out′ ≡ withPeak out number (merged (reverse (peaksAt ps (w .last ∷ w .older))))
-          → Walked rule params ps order merged₀ column₀ (i + 1) (number + 1) o′ out′ (set column (getD order i 0) (number + 1))
-      unfolding closing group numbered
-      walk-close f k out′ e = record {
-        closed = closing;
-        last = getD order i 0;
-        older = [];
-        whole =
-            w .whole ∙ ap (λ (qs : List ℕ). w .closed ++ groupsFrom rule params ps group qs) next
-            ∙ ap (λ gs. w .closed ++ gs) (groups-close rule params ps group (getD order i 0) (drop (i + 1) order) f)
-            ∙ sym (append-assoc (w .closed) (reverse group ∷ []) (groupsFrom rule params ps (getD order i 0 ∷ []) (drop (i + 1) order)));
-        count = count-closed;
-        newest = behind;
-        opens = k;
-        records = e ∙ records-closed;
-        marks = ap (λ (l : List ℕ). set l (getD order i 0) (number + 1)) marks-closed;
-      }
+        let more : (number + 1) * size ≡ number * size + size = omega arith in
+        let own : number ≡ 0 + length (w .closed) = omega (arith, w .count) in
+        record {
+          closed = w .closed ++ (g ∷ []);
+          whole = w .whole ∙ ap (λ gs. w .closed ++ gs) cut ∙ sym (append-assoc (w .closed) (g ∷ []) (groups rule params ps (drop k order)));
+          count = simp length-append (omega (arith, w .count));
+          records = e ∙ rw (more, groups-one ps (w .closed) g) (fill-behind (listWords (groupPeaks ps (w .closed))) (wordsOf (merged (peaksAt ps g))) merged₀ out (number * size) size f (w .records));
+          marks = ap (numbered number g) (w .marks) ∙ ap (λ (n : ℕ). numbered n g (marked 0 (w .closed) column₀)) own ∙ sym (marked-one 0 (w .closed) g column₀);
+        }
 
     -- at the end
-    module _ (h : length order ≤ i) where
-      all : groups rule params ps order ≡ closing
-      unfolding closing group groupsFrom
-      all = w .whole ∙ ap (λ (qs : List ℕ). w .closed ++ groupsFrom rule params ps group qs) (drop-of-length-le order {i = i} h)
-
-      pub end-count : number + 1 ≡ length (groups rule params ps order)
-      end-count = count-closed ∙ ap length (sym all)
-
-      pub end-marks : column ≡ marked 0 (groups rule params ps order) column₀
-      end-marks = marks-closed ∙ ap (λ gs. marked 0 gs column₀) (sym all)
-
-      pub end-records : withPeak out number (merged (reverse (peaksAt ps (w .last ∷ w .older)))) ≡ listWords (groupPeaks ps (groups rule params ps order)) ++ drop ((number + 1) * size) merged₀
-      unfolding group
-      end-records = records-closed ∙ ap (λ gs. listWords (groupPeaks ps gs) ++ drop ((number + 1) * size) merged₀) (sym all)
+    pub walk-end : length order ≤ i → Grouped rule params ps order merged₀ column₀ number out column
+    unfolding groups
+    walk-end l =
+        let all : groups rule params ps order ≡ w .closed = w .whole ∙ ap (λ (qs : List ℕ). w .closed ++ groups rule params ps qs) (drop-of-length-le order {i = i} l) ∙ append-nil (w .closed) in
+        record { counted = w .count ∙ ap length (sym all); records = rw all (w .records); marks = rw all (w .marks) }

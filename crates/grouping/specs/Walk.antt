@@ -1,23 +1,14 @@
 -- What the walk over sorted peaks keeps and writes.
 use mathlib.Core.Path.{_≡_}
-use mathlib.Core.List.{List, [], _∷_, _++_, reverse, foldl, List·Memᴰ}
-use Prim.Native.Nat.{ℕ, _+_, _*_, _<_}
-use lib.ListN.{length, getD, drop, set}
+use mathlib.Core.List.{List, [], _∷_, _++_, foldl, List·Memᴰ}
+use Prim.Native.Nat.{ℕ, _+_, _-_, _*_, _<_}
+use lib.ListN.{length, getD, take, drop, set}
 use Rattle.record.specs.Record.{size, peakAt}
 use Rattle.record.specs.declared.ImPeak1D.{ImPeak1D}
 use Rattle.peaklist.specs.PeakList.{nth, listWords}
 use Rattle.matching.specs.declared.StitchParams.{StitchParams}
-use Rattle.matching.specs.Group.{Covers}
 use Rattle.keys.specs.declared.KeyRule.{KeyRule}
-use Rattle.merging.specs.Walk.{Holds}
-use Rattle.grouping.specs.declared.inner.Open.{Open}
-use Rattle.grouping.specs.Grouping.{bucketBy, groups, groupPeaks}
-
--- o is the group whose newest peak is p, and whose others are qs, newest first
-pub record Opens (rule : KeyRule) (o : Open) (p : ImPeak1D) (qs : List ImPeak1D) : Type 0 where
-  pub bucket : o .bucket ≡ bucketBy rule p
-  pub spans : Covers (o .spans) (p ∷ qs)
-  pub sums : Holds (o .sums) (reverse (p ∷ qs))
+use Rattle.grouping.specs.Grouping.{groups, groupPeaks}
 
 -- the records of `sorted` are those of the peaks ps, in the order of the places
 abbrev pub Gathered : List ImPeak1D → List ℕ → List ℕ → Type 0
@@ -26,6 +17,14 @@ Gathered ps sorted order = (i : ℕ) → i < length order → peakAt sorted i �
 -- every place is one of a column
 abbrev pub Columned : List ℕ → List ℕ → Type 0
 Columned column order = (p : ℕ) → List·Memᴰ p order → p < length column
+
+-- the places of an order from i to before k
+unfoldable pub part : List ℕ → ℕ → ℕ → List ℕ
+part order i k = take (k - i) (drop i order)
+
+-- the first group of the places from i on has those to before k
+abbrev pub Cut : KeyRule → StitchParams → List ImPeak1D → List ℕ → ℕ → ℕ → Type 0
+Cut rule params ps order i k = groups rule params ps (drop i order) ≡ part order i k ∷ groups rule params ps (drop k order)
 
 -- a column with a number at each of some places
 unfoldable pub numbered : ℕ → List ℕ → List ℕ → List ℕ

@@ -1,30 +1,21 @@
-// One walk over peaks in their order. Of the open group only its newest peak is looked at again, where it stands: its bucket, its
-// extremes and its sums are all that is kept of it.
+// One walk over peaks in their order, group by group: where a group ends is found first, from what the tests look at alone; then its
+// peaks, which are near at hand, are merged.
 use keys::KeyRule;
 use keys::inner::Bucket;
 use matching::StitchParams;
-use matching::inner::Spans;
 use merging::inner::Merging;
 use record::ImPeak1D;
 ghost use mathlib.Core.Path.{_≡_};
-ghost use mathlib.Core.Bool.{true};
-ghost use mathlib.Core.List.{List, [], _∷_, reverse};
-ghost use Prim.Native.Nat.{_≤_, _+_, _*_};
+ghost use mathlib.Core.List.{List};
+ghost use Prim.Native.Nat.{ℕ, _≤_, _<_, _+_, _*_};
 ghost use lib.ListN.{length};
-ghost use Rattle.record.specs.Record.{size, peakAt, withPeak};
+ghost use Rattle.record.specs.Record.{size, withPeak};
 ghost use Rattle.record.specs.declared.ImPeak1D.{ImPeak1D as PeakT};
-ghost use Rattle.keys.specs.declared.KeyRule.{KeyRule as RuleT};
-ghost use Rattle.merging.specs.Merging.{merged as mergedPeak};
 ghost use Rattle.keys.specs.Keys.{isSameBucket};
-ghost use Rattle.grouping.specs.Grouping.{bucketBy, follows};
-ghost use Rattle.grouping.specs.Walk.{Opens, Gathered, Columned, Grouped};
-
-// The open group: its bucket, its extremes, and what its merge keeps.
-struct Open {
-    bucket: Bucket,
-    spans: Spans,
-    sums: Merging,
-}
+ghost use Rattle.merging.specs.Merging.{merged as mergedPeak};
+ghost use Rattle.merging.specs.Walk.{Holds};
+ghost use Rattle.grouping.specs.Grouping.{bucketBy, peaksAt};
+ghost use Rattle.grouping.specs.Walk.{part, Cut, Gathered, Columned, numbered, Grouped};
 
 // The bucket of a peak; the second pass has one for all.
 fn bucket_by(p: ImPeak1D, rule: KeyRule) -> Bucket
@@ -58,61 +49,61 @@ fn is_of_bucket(b: Bucket, p: ImPeak1D, rule: KeyRule) -> bool
     }
 }
 
-// Whether a peak may join the open group, whose newest is `last`.
-fn follows(o: Open, last: ImPeak1D, p: ImPeak1D, rule: KeyRule, params: StitchParams) -> bool
-    ensures { λ r. ⌜ ((qs : List PeakT) → Opens rule o last qs → r ≡ follows rule params (last ∷ qs) p) ⌝ }
+// Where the group ends that starts at place i of n peaks.
+fn group_end(sorted: &[u32], n: usize, i: usize, rule: KeyRule, params: StitchParams) -> usize
+    requires { ⌜ (i < n) × (n * size ≤ length (now sorted)) ⌝ }
+    ensures { λ r. ⌜ (i < r) × (r ≤ n) × ((ps : List PeakT) (order : List ℕ) → length order ≡ n → Gathered ps (now (sorted .entry)) order → Cut rule params ps order i r) ⌝ }
 {
-    let bucket = o.bucket;
-    let spans = o.spans;
-    if is_of_bucket(bucket, p, rule) {
-        matching::inner::joins(last, spans, p, params)
-    } else {
-        false
+    let first = record::inner::peak_at(sorted, i);
+    let bucket = bucket_by(first, rule);
+    let mut spans = matching::inner::spans_of(first);
+    let mut k = i + 1;
+    while k < n {
+        if !is_of_bucket(bucket, record::inner::peak_at(sorted, k), rule) {
+            return k;
+        }
+        if !matching::inner::joins_at(sorted, k, spans, params) {
+            return k;
+        }
+        spans = matching::inner::widened(spans, record::inner::peak_at(sorted, k));
+        k += 1;
     }
+    k
 }
 
-// A group of one.
-fn opened(p: ImPeak1D, bucket: Bucket) -> Open
-    ensures { λ r. ⌜ ((rule : RuleT) → bucket ≡ bucketBy rule p → Opens rule r p []) ⌝ }
+// What the merge of the peaks from place i to before `end` keeps of them.
+fn gather_part(sorted: &[u32], i: usize, end: usize) -> Merging
+    requires { ⌜ (i < end) × (end * size ≤ length (now sorted)) ⌝ }
+    ensures { λ r. ⌜ ((ps : List PeakT) (order : List ℕ) → end ≤ length order → Gathered ps (now (sorted .entry)) order → Holds r (peaksAt ps (part order i end))) ⌝ }
 {
-    Open {
-        bucket: bucket,
-        spans: matching::inner::spans_of(p),
-        sums: merging::inner::start(p),
+    let mut m = merging::inner::start(record::inner::peak_at(sorted, i));
+    let mut k = i + 1;
+    while k < end {
+        m = merging::inner::join(m, record::inner::peak_at(sorted, k));
+        k += 1;
     }
+    m
 }
 
-// The same for the peak at place i of a list. It is read here, so that a peak that joins a group is not written to memory on its way.
-fn opened_at(sorted: &[u32], i: usize, rule: KeyRule) -> Open
-    requires { ⌜ i * size + size ≤ length (now sorted) ⌝ }
-    ensures { λ r. ⌜ Opens rule r (peakAt (now (sorted .entry)) i) [] ⌝ }
-{
-    let p = record::inner::peak_at(sorted, i);
-    opened(p, bucket_by(p, rule))
-}
-
-// A group that takes in one more, of its bucket.
-fn joined(o: Open, p: ImPeak1D) -> Open
-    ensures { λ r. ⌜ ((rule : RuleT) (q : PeakT) (qs : List PeakT) → Opens rule o q qs → isSameBucket (bucketBy rule q) (bucketBy rule p) ≡ true → Opens rule r p (q ∷ qs)) ⌝ }
-{
-    let bucket = o.bucket;
-    let spans = o.spans;
-    let sums = o.sums;
-    Open {
-        bucket: bucket,
-        spans: matching::inner::widened(spans, p),
-        sums: merging::inner::join(sums, p),
-    }
-}
-
-// Closes a group: writes its merged record to place k.
-fn put_merged(merged: &mut [u32], k: u32, o: Open)
+// Writes the merged record of a group to place k.
+fn put_merged(merged: &mut [u32], k: usize, m: Merging)
     requires { ⌜ k * size + size ≤ length (now merged) ⌝ }
-    ensures { λ _. ⌜ ((rule : RuleT) (q : PeakT) (qs : List PeakT) → Opens rule o q qs
-        → now (merged .exit) ≡ withPeak (now (merged .entry)) k (mergedPeak (reverse (q ∷ qs)))) ⌝ }
+    ensures { λ _. ⌜ ((ps : List PeakT) → Holds m ps → now (merged .exit) ≡ withPeak (now (merged .entry)) k (mergedPeak ps)) ⌝ }
 {
-    let sums = o.sums;
-    record::inner::put_peak(merged, k as usize, merging::inner::finish(sums));
+    record::inner::put_peak(merged, k, merging::inner::finish(m));
+}
+
+// Writes a group's number to the places of its members, which `order` has from i to before `end`.
+fn put_number(order: &[u32], i: usize, end: usize, number: u32, column: &mut [u32])
+    requires { ⌜ (i ≤ end) × (end ≤ length (now order)) × Columned (now column) (now order) ⌝ }
+    ensures { λ _. ⌜ now (column .exit) ≡ numbered number (part (now (order .entry)) i end) (now (column .entry)) ⌝ }
+{
+    let mut k = i;
+    while k < end {
+        let place = order[k] as usize;
+        column[place] = number;
+        k += 1;
+    }
 }
 
 // Cuts the peaks whose records stand in `sorted`, and whose places are in `order`, into groups. Writes the record of each merged
@@ -130,30 +121,15 @@ pub fn put_groups(
     ensures { λ r. ⌜ ((ps : List PeakT) → Gathered ps (now (sorted .entry)) (now (order .entry))
         → Grouped rule params ps (now (order .entry)) (now (merged .entry)) (now (column .entry)) r (now (merged .exit)) (now (column .exit))) ⌝ }
 {
-    if order.len() == 0 {
-        return 0;
+    let n = order.len();
+    let mut number = 0usize;
+    let mut i = 0usize;
+    while i < n {
+        let end = group_end(sorted, n, i, rule, params);
+        put_number(order, i, end, number as u32, column);
+        put_merged(merged, number, gather_part(sorted, i, end));
+        number += 1;
+        i = end;
     }
-    let first = order[0] as usize;
-    let mut open = opened_at(sorted, 0, rule);
-    let mut number = 0u32;
-    column[first] = number;
-    let mut i = 1usize;
-    while i < order.len() {
-        let place = order[i] as usize;
-        let last = record::inner::peak_at(sorted, i - 1);
-        let p = record::inner::peak_at(sorted, i);
-        if follows(open, last, p, rule, params) {
-            open = joined(open, p);
-            column[place] = number;
-            i += 1;
-        } else {
-            put_merged(merged, number, open);
-            open = opened_at(sorted, i, rule);
-            number += 1;
-            column[place] = number;
-            i += 1;
-        }
-    }
-    put_merged(merged, number, open);
-    number as usize + 1
+    number
 }

@@ -1,4 +1,3 @@
-use mathlib.Core.List.{_∷_, reverse}
 use borrow.Author.Needs.{needs}
 use Rattle.grouping.proofs.inner.put_merged.Statement.{statement}
 use Rattle.grouping.proofs.inner.put_merged.Tie as tie
@@ -13,7 +12,7 @@ same-length : tie.Need-same-length
 same-length c = search needs
 
 returns : tie.Need-returns
-returns c = λ rule q ps h. rw (← c .before .before .before .finish .ensures (reverse (q ∷ ps)) (h .sums)) (c .before .before .put-peak .ensures)
+returns c = λ ps h. rw (← c .before .before .before .finish .ensures ps h) (c .before .before .put-peak .ensures)
 
 pub put-merged-spec : {M : Type 1} → statement M
 put-merged-spec = tie.close (tie.spec finish-requires put-peak-requires same-length returns)
