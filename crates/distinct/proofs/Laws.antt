@@ -1,27 +1,28 @@
 -- Identities in order.
-use mathlib.Core.Path.{_≡_, refl, sym, ap, _∙_}
+use mathlib.Core.Path.{_≡_, refl, sym, ap, subst, _∙_}
 use mathlib.Core.Bool.{Bool, true, false, cond, not, _&&_, _||_}
 use mathlib.Core.List.{List, [], _∷_, _++_, map, List·Memᴰ}
 use mathlib.Core.List.{List·Memᴰ·head as here, List·Memᴰ·tail as there}
 use Prim.Native.Nat.{ℕ, zero, suc, _+_, _-_, _<_, _≤_}
 use native.Mathlib.Omega.{arith}
 use native.Mathlib.Numerals.{add-one}
-use borrow.Author.Tests.{eqb-true, eqb-false, eq-eqb, ne-eqb, ltb-true, ltb-false}
-use lib.Dec.{eqb, ltb}
-use lib.ListN.{length, getD, drop, length-map, drop-of-length-le}
-use lib.Seq.{take-all, drop-cons}
+use borrow.Author.Tests.{eqb-true, eqb-false, eq-eqb, ne-eqb, ltb-true, ltb-false, leb-true, leb-false}
+use lib.Dec.{eqb, ltb, leb}
+use lib.ListN.{length, getD, take, drop, length-map, drop-of-length-le, take-append-drop}
+use lib.Seq.{take-all, take-append-le, drop-cons, length-take-le}
 use Rattle.refusal.proofs.Bools.{clash}
 use Rattle.record.specs.Record.{idAt, peakFrom}
 use Rattle.record.specs.declared.ImPeak1D.{ImPeak1D}
 use Rattle.peaklist.specs.PeakList.{nth, peaksOf}
 use Rattle.peaklist.proofs.PeakListLaws.{peaks-length, nth-peaks}
 use Rattle.digits.specs.Sorted.{lexLt, inserted, sortedBy, row, upTo, Ascending}
-use Rattle.digits.proofs.SortedLaws.{sort-ascending, sort-given, at-index, lower-first}
-use Rattle.digits.proofs.UpTo.{upto-lt, front-map}
+use Rattle.digits.proofs.SortedLaws.{sort-ascending, sort-given, sort-length, sort-sorted, sort-same, at-index, lower-first, asymmetric}
+use Rattle.digits.proofs.UpTo.{upto-length, upto-lt, front-map}
+use Rattle.ordering.proofs.Laws.{Up, up-none, up-next}
 use Rattle.keys.specs.declared.KeyRule.the-variants.{Identity}
 use Rattle.keys.specs.Keys.{keyOf, widthOf, keyTable}
 use Rattle.keys.proofs.KeysLaws.{table-sorts}
-use Rattle.distinct.specs.Distinct.{isIn, distinct, distinctIds, differFrom, neighboursDiffer}
+use Rattle.distinct.specs.Distinct.{isIn, distinct, distinctIds, byIdentity, differFrom, neighboursDiffer}
 use Rattle.distinct.proofs.DistinctLaws.{tells-distinct}
 
 -- ---- identities that rise
@@ -62,6 +63,33 @@ rises-more words k o r h j b = go (ltb (j + 1) k) refl
         let e : k - 1 ≡ j = omega (arith, ltb-false (j + 1) k t) in
         let f : k ≡ j + 1 = omega (arith, ltb-false (j + 1) k t) in
         rw (← f, ← e) h
+
+-- the identity of a place, as a key
+abbrev idKey : List ℕ → ℕ → List ℕ
+idKey words k = idAt words k ∷ []
+
+rises-up : (words : List ℕ) (n : ℕ) → Rises words n → (k : ℕ) → k < n → Up (idKey words) k
+rises-up words n r zero h = up-none (idKey words)
+rises-up words n r (suc k) h =
+    let d : k ≡ suc k - 1 = omega arith in
+    let e : suc k + 1 - 1 ≡ suc k = omega arith in
+    let above : idAt words k < idAt words (suc k) = subst (λ j. idAt words k < idAt words j) (add-one k) (r k (omega arith)) in
+    let after : lexLt (idKey words (suc k)) (idKey words k) ≡ false
+    = asymmetric (idKey words k) (idKey words (suc k)) (lower-first (idAt words k) (idAt words (suc k)) [] [] above) in
+    subst (Up (idKey words)) e
+    (up-next (idKey words) (suc k) (omega arith) (subst (Up (idKey words)) d (rises-up words n r k (omega arith))) (subst (λ j. lexLt (idKey words (suc k)) (idKey words j) ≡ false) d after))
+
+-- the places of identities that rise are in their order
+pub rises-order : (words : List ℕ) (n : ℕ) → Rises words n → byIdentity (peaksOf words n) ≡ upTo n
+unfolding peakFrom keyOf upTo
+rises-order words n r =
+    ap (λ m. sortedBy (λ k. keyOf Identity (nth (peaksOf words n) k)) (upTo m)) (peaks-length words n)
+    ∙ sort-same (λ k. keyOf Identity (nth (peaksOf words n) k)) (idKey words) (upTo n) (λ p q i j. rw (nth-peaks words n p (upto-lt n p i), nth-peaks words n q (upto-lt n q j)))
+    ∙ sort-sorted (idKey words) (upTo n) (up n r)
+  where
+    up : (m : ℕ) → Rises words m → Ascending (idKey words) (upTo m)
+    up zero r = tt
+    up (suc m) r = rises-up words (suc m) r m (omega arith) .0
 
 -- ---- neighbours in a list that ascends
 
@@ -233,13 +261,41 @@ module _ (ps : List ImPeak1D) (rest : List ℕ) where
       ∙ sort-distinct id key (upTo (length ps))
       ∙ ap distinct (sym (ids-map ps))
 
--- with n peaks of a list of words, and what a sort of their identities left
-module _ (words : List ℕ) (n : ℕ) (ids rest order : List ℕ) (e : ids ≡ keyTable Identity (peaksOf words n) ++ rest) (o : order ≡ sortedBy (row ids 1) (upTo n)) where
-  sorted : order ≡ inOrder (peaksOf words n) rest
-  sorted = o ∙ rw (e, peaks-length words n)
+-- what holds where the identities of n peaks of a list of words are sorted
+pub record Found (words : List ℕ) (n : ℕ) (ids order : List ℕ) : Type 0 where
+  pub in-order : order ≡ byIdentity (peaksOf words n)
+  pub below : (k : ℕ) → k < length order → getD order k 0 < n
+  pub tells : neighboursDiffer (map (λ p. getD ids p 0) order) ≡ distinctIds (peaksOf words n)
 
-  pub found-below : (k : ℕ) → k < length order → getD order k 0 < n
-  found-below k l = rw (← peaks-length words n, sorted) (order-below (peaksOf words n) rest k (rw sorted at l))
+pub found : (words : List ℕ) (n : ℕ) (ids rest order : List ℕ) → ids ≡ keyTable Identity (peaksOf words n) ++ rest → order ≡ sortedBy (row ids 1) (upTo n) → Found words n ids order
+unfolding widthOf
+found words n ids rest order e o =
+    let ps = peaksOf words n in
+    let sorted : order ≡ inOrder ps rest = o ∙ rw (e, peaks-length words n) in
+    record {
+      in-order = sorted ∙ table-sorts Identity ps rest;
+      below = λ k l. rw (← peaks-length words n, sorted) (order-below ps rest k (rw sorted at l));
+      tells = rw (sorted, e) (order-tells ps rest);
+    }
 
-  pub found-tells : neighboursDiffer (map (λ p. getD ids p 0) order) ≡ distinctIds (peaksOf words n)
-  found-tells = rw (sorted, e) (order-tells (peaksOf words n) rest)
+-- ---- the first places
+
+-- the first of the places that count up
+pub upto-front : (n m : ℕ) → m ≤ n → take m (upTo n) ≡ upTo m
+unfolding upTo
+upto-front zero m h = let e : m ≡ 0 = omega arith in rw e
+upto-front (suc n) m h = go (leb m n) refl (upto-front n m)
+  where
+    go : (t : Bool) → leb m n ≡ t → (m ≤ n → take m (upTo n) ≡ upTo m) → take m (upTo n ++ (n ∷ [])) ≡ upTo m
+    go true t front = take-append-le m (upTo n) (n ∷ []) (omega (arith, upto-length n, leb-true m n t)) ∙ front (leb-true m n t)
+    go false t front = let e : m ≡ suc n = omega (arith, leb-false m n t) in rw e (take-all (suc n) (upTo (suc n)) (omega (arith, upto-length (suc n))))
+
+-- all places put to the front of a list, or what it held left there
+pub put-front : (r : Bool) (all order last : List ℕ) (n : ℕ) → n ≤ length order → length all ≡ n → last ≡ cond r (take (length (take n order)) all) (take n order)
+    → last ++ drop n order ≡ cond r (all ++ drop n order) order
+put-front true all order last n h l e = ap (λ z. z ++ drop n order) (e ∙ take-all (length (take n order)) all (omega (arith, l, length-take-le n order h)))
+put-front false all order last n h l e = ap (λ z. z ++ drop n order) e ∙ take-append-drop n order
+
+-- as many as there are peaks
+pub order-length : (words : List ℕ) (n : ℕ) → length (byIdentity (peaksOf words n)) ≡ n
+order-length words n = sort-length (λ k. keyOf Identity (nth (peaksOf words n) k)) (upTo (length (peaksOf words n))) ∙ upto-length (length (peaksOf words n)) ∙ peaks-length words n

@@ -1,20 +1,21 @@
 // Identities that rise are distinct; others are sorted, and each is compared with the next.
 use keys::KeyRule;
 ghost use mathlib.Core.Path.{_≡_};
-ghost use mathlib.Core.Bool.{true};
-ghost use mathlib.Core.List.{map};
+ghost use mathlib.Core.Bool.{true, cond};
+ghost use mathlib.Core.List.{_++_, map};
 ghost use Prim.Native.Nat.{ℕ, _≤_, _<_, _*_};
-ghost use lib.ListN.{length, getD, take};
+ghost use lib.ListN.{length, getD, take, drop};
 ghost use Rattle.limits.specs.Limits.{maxList};
 ghost use Rattle.record.specs.Record.{size};
 ghost use Rattle.peaklist.specs.PeakList.{peaksOf};
 ghost use Rattle.digits.specs.Sorted.{sortedBy, row, upTo};
-ghost use Rattle.distinct.specs.Distinct.{distinctIds, neighboursDiffer};
+ghost use Rattle.distinct.specs.Distinct.{distinctIds, byIdentity, neighboursDiffer};
 
 // Whether each of the first n identities is above the one before it.
 fn rise(list: &[u32], n: usize) -> bool
     requires { ⌜ n * size ≤ length (now list) ⌝ }
-    ensures { λ r. ⌜ (r ≡ true → distinctIds (peaksOf (now (list .entry)) n) ≡ true) ⌝ }
+    ensures distinct { λ r. ⌜ (r ≡ true → distinctIds (peaksOf (now (list .entry)) n) ≡ true) ⌝ }
+    ensures order { λ r. ⌜ (r ≡ true → byIdentity (peaksOf (now (list .entry)) n) ≡ upTo n) ⌝ }
 {
     for k in 1..n {
         if !record::inner::id_lt(
@@ -54,35 +55,78 @@ fn put_order(ids: &[u32], n: usize, order: &mut [u32], spare: &mut [u32])
     ordering::inner::order_rows(ids, 1, &mut order[..n], spare);
 }
 
-// Whether the first n identities are distinct, with room to sort them.
-fn by_order(list: &[u32], n: usize, ids: &mut [u32], order: &mut [u32], spare: &mut [u32]) -> bool
-    requires { ⌜ (n * size ≤ length (now list)) × (n ≤ maxList) × (n ≤ length (now ids)) × (n ≤ length (now order)) × (n ≤ length (now spare)) ⌝ }
-    ensures { λ r. ⌜ r ≡ distinctIds (peaksOf (now (list .entry)) n) ⌝ }
+// Fills `to` with the first words of `from`.
+fn copy(from: &[u32], to: &mut [u32])
+    requires { ⌜ length (now to) ≤ length (now from) ⌝ }
+    ensures { λ _. ⌜ now (to .exit) ≡ take (length (now (to .entry))) (now (from .entry)) ⌝ }
+{
+    let mut i = 0usize;
+    while i < to.len() {
+        to[i] = from[i];
+        i += 1;
+    }
+}
+
+// Whether the first n identities are distinct, with room to sort them. If so, `to` is filled with the first places in their order;
+// else it stays as it is.
+fn by_order(
+    list: &[u32],
+    n: usize,
+    to: &mut [u32],
+    ids: &mut [u32],
+    order: &mut [u32],
+    spare: &mut [u32],
+) -> bool
+    requires { ⌜ (n * size ≤ length (now list)) × (n ≤ maxList) × (length (now to) ≤ n) × (n ≤ length (now ids)) × (n ≤ length (now order)) × (n ≤ length (now spare)) ⌝ }
+    ensures distinct { λ r. ⌜ r ≡ distinctIds (peaksOf (now (list .entry)) n) ⌝ }
+    ensures order { λ r. ⌜ now (to .exit) ≡ cond r (take (length (now (to .entry))) (byIdentity (peaksOf (now (list .entry)) n))) (now (to .entry)) ⌝ }
 {
     keys::inner::put_keys(list, n, KeyRule::Identity, ids);
     put_order(ids, n, order, spare);
-    neighbours_differ(ids, &order[..n])
+    if neighbours_differ(ids, &order[..n]) {
+        copy(order, to);
+        return true;
+    }
+    false
 }
 
 // The same, with room for 1,024 and for 65,536.
-fn in_1024(list: &[u32], n: usize) -> bool
-    requires { ⌜ (n * size ≤ length (now list)) × (n ≤ 1024) ⌝ }
-    ensures { λ r. ⌜ r ≡ distinctIds (peaksOf (now (list .entry)) n) ⌝ }
+fn in_1024(list: &[u32], n: usize, to: &mut [u32]) -> bool
+    requires { ⌜ (n * size ≤ length (now list)) × (n ≤ 1024) × (length (now to) ≤ n) ⌝ }
+    ensures distinct { λ r. ⌜ r ≡ distinctIds (peaksOf (now (list .entry)) n) ⌝ }
+    ensures order { λ r. ⌜ now (to .exit) ≡ cond r (take (length (now (to .entry))) (byIdentity (peaksOf (now (list .entry)) n))) (now (to .entry)) ⌝ }
 {
     let mut ids = [0u32; 1024];
     let mut order = [0u32; 1024];
     let mut spare = [0u32; 1024];
-    by_order(list, n, &mut ids, &mut order, &mut spare)
+    by_order(list, n, to, &mut ids, &mut order, &mut spare)
 }
 
-fn in_65536(list: &[u32], n: usize) -> bool
-    requires { ⌜ (n * size ≤ length (now list)) × (n ≤ maxList) ⌝ }
-    ensures { λ r. ⌜ r ≡ distinctIds (peaksOf (now (list .entry)) n) ⌝ }
+fn in_65536(list: &[u32], n: usize, to: &mut [u32]) -> bool
+    requires { ⌜ (n * size ≤ length (now list)) × (n ≤ maxList) × (length (now to) ≤ n) ⌝ }
+    ensures distinct { λ r. ⌜ r ≡ distinctIds (peaksOf (now (list .entry)) n) ⌝ }
+    ensures order { λ r. ⌜ now (to .exit) ≡ cond r (take (length (now (to .entry))) (byIdentity (peaksOf (now (list .entry)) n))) (now (to .entry)) ⌝ }
 {
     let mut ids = [0u32; 65536];
     let mut order = [0u32; 65536];
     let mut spare = [0u32; 65536];
-    by_order(list, n, &mut ids, &mut order, &mut spare)
+    by_order(list, n, to, &mut ids, &mut order, &mut spare)
+}
+
+// The same, with no room lent: where the identities rise, the places count up.
+fn put_first(list: &[u32], n: usize, to: &mut [u32]) -> bool
+    requires { ⌜ (n * size ≤ length (now list)) × (n ≤ maxList) × (length (now to) ≤ n) ⌝ }
+    ensures distinct { λ r. ⌜ r ≡ distinctIds (peaksOf (now (list .entry)) n) ⌝ }
+    ensures order { λ r. ⌜ now (to .exit) ≡ cond r (take (length (now (to .entry))) (byIdentity (peaksOf (now (list .entry)) n))) (now (to .entry)) ⌝ }
+{
+    if rise(list, n) {
+        digits::inner::count_up(to);
+        return true;
+    }
+    if n <= 1024 {
+        return in_1024(list, n, to);
+    }
+    in_65536(list, n, to)
 }
 
 // Whether the first n identities are distinct: whether number 8 does not apply to them.
@@ -90,11 +134,16 @@ pub fn all_distinct(list: &[u32], n: usize) -> bool
     requires { ⌜ (n * size ≤ length (now list)) × (n ≤ maxList) ⌝ }
     ensures { λ r. ⌜ r ≡ distinctIds (peaksOf (now (list .entry)) n) ⌝ }
 {
-    if rise(list, n) {
-        return true;
-    }
-    if n <= 1024 {
-        return in_1024(list, n);
-    }
-    in_65536(list, n)
+    let mut none = [0u32; 0];
+    put_first(list, n, &mut none)
+}
+
+// Whether the first n identities are distinct. If so, the places in the order of their identities are put to the front of `order`;
+// else it stays as it is.
+pub fn put_by_identity(list: &[u32], n: usize, order: &mut [u32]) -> bool
+    requires { ⌜ (n * size ≤ length (now list)) × (n ≤ maxList) × (n ≤ length (now order)) ⌝ }
+    ensures distinct { λ r. ⌜ r ≡ distinctIds (peaksOf (now (list .entry)) n) ⌝ }
+    ensures order { λ r. ⌜ now (order .exit) ≡ cond r (byIdentity (peaksOf (now (list .entry)) n) ++ drop n (now (order .entry))) (now (order .entry)) ⌝ }
+{
+    put_first(list, n, &mut order[..n])
 }

@@ -3,7 +3,7 @@ use mathlib.Core.Bool.{false}
 use Prim.Native.Nat.{_≤_, _-_}
 use native.Mathlib.Omega.{arith}
 use borrow.Author.Needs.{needs}
-use Rattle.distinct.proofs.Laws.{Rises, rises-more, rises-distinct}
+use Rattle.distinct.proofs.Laws.{Rises, rises-more, rises-distinct, rises-order}
 use borrow.Author.Tests.{ltb-true, not-false}
 use Rattle.refusal.proofs.Bools.{clash}
 use Rattle.distinct.proofs.inner.rise.Statement.{statement}
@@ -31,7 +31,7 @@ id-lt-requires : tie.Need-id-lt-requires Inv-loop μ-loop
 id-lt-requires c κs = search needs
 
 returns : tie.Need-returns Inv-loop μ-loop
-returns c = λ e. clash false e refl
+returns c = (λ e. clash false e refl, λ e. clash false e refl)
 
 add-k : tie.Need-add-k Inv-loop μ-loop
 add-k c = search needs
@@ -48,7 +48,10 @@ loop-again c = let a = c .before in
     (omega arith, rises-more (s .args .list .now) (i .k) (i .inv .0) (i .inv .1) (rw (b .before .im-id .ensures, b .im-id2 .ensures) at (ltb-true (b .before .im-id .result) (b .im-id2 .result) (sym (a .id-lt .ensures) ∙ not-false (a .id-lt .result) (c .if1 .left)))))
 
 returns-2 : tie.Need-returns-2 Inv-loop μ-loop
-returns-2 c = λ e. let l = c .before in rises-distinct (l .before .before .args .list .now) (l .before .before .args .n) (λ j h. l .loop .inv .1 j (omega arith))
+returns-2 c = let l = c .before in
+    let words = l .before .before .args .list .now in
+    let n = l .before .before .args .n in
+    (λ e. rises-distinct words n (λ j h. l .loop .inv .1 j (omega arith)), λ e. rises-order words n (λ j h. l .loop .inv .1 j (omega arith)))
 
 pub rise-spec : {M : Type 1} → statement M
 rise-spec =
