@@ -10,6 +10,8 @@ ghost use Rattle.record.specs.Record.{size};
 ghost use mathlib.Core.Bool.{true};
 ghost use Rattle.peaklist.specs.PeakList.{peaksOf};
 ghost use Rattle.digits.specs.Sorted.{upTo};
+ghost use Rattle.keys.specs.declared.KeyRule.the-variants.{Identity};
+ghost use Rattle.grouping.specs.Grouping.{passOrder};
 ghost use Rattle.passes.specs.Steps.{recordsAt, Passed, Within, Stitched};
 
 // Copies the first nine words of one list to the front of another: all are read before one is written, so that several are moved
@@ -151,7 +153,8 @@ fn hand_on(numbers: &[u32], owners: &mut [u32], n: usize)
 }
 
 // Stitches the n records of `list`: the stitched records at the front of `out`, and for each record the place of its stitched
-// one in `owners`. Returns how many there are. `order` and `groups` are used up to n places, `keys` and `merged` up to n records.
+// one in `owners`. Returns how many there are. `order` has the places in the order of their identities. `order` and `groups` are
+// used up to n places, `keys` and `merged` up to n records.
 pub fn stitch_peaks(
     list: &[u32],
     n: usize,
@@ -164,7 +167,8 @@ pub fn stitch_peaks(
     merged: &mut [u32],
 ) -> usize
     requires { ⌜ (n * size ≤ length (now list)) × (n ≤ 4294967296) × (n * size ≤ length (now out)) × (n ≤ length (now owners))
-        × (n ≤ length (now order)) × (n ≤ length (now groups)) × (n * size ≤ length (now keys)) × (n * size ≤ length (now merged)) ⌝ }
+        × (n ≤ length (now order)) × (n ≤ length (now groups)) × (n * size ≤ length (now keys)) × (n * size ≤ length (now merged))
+        × (take n (now order) ≡ passOrder Identity (peaksOf (now list) n)) ⌝ }
     ensures stitched { λ r. ⌜ Stitched params (peaksOf (now (list .entry)) n) (now (out .entry)) (now (owners .entry)) r (now (out .exit)) (now (owners .exit)) ⌝ }
     ensures order { λ _. ⌜ drop n (now (order .exit)) ≡ drop n (now (order .entry)) ⌝ }
     ensures groups { λ _. ⌜ drop n (now (groups .exit)) ≡ drop n (now (groups .entry)) ⌝ }
