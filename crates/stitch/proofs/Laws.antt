@@ -1,31 +1,34 @@
 -- Laws of the answer to a list to stitch.
 use mathlib.Core.Path.{_≡_, refl, sym, _∙_}
 use mathlib.Core.Bool.{Bool, true, _||_}
-use mathlib.Core.List.{List}
+use mathlib.Core.List.{List, _++_}
 use Prim.Native.Nat.{ℕ, _*_, _≤_}
 use borrow.Author.Tests.{ltb-false, not-false}
 use lib.Dec.{ltb}
-use lib.ListN.{length, drop}
+use lib.ListN.{length, take, drop}
+use lib.Seq.{take-at, drop-at}
 use Rattle.refusal.proofs.AnswersLaws.{says-number, says-values}
 use Rattle.refusal.proofs.Bools.{neither}
 use Rattle.limits.specs.Limits.{maxList}
-use Rattle.record.specs.Record.{size, allSound}
+use Rattle.record.specs.Record.{size}
+use Rattle.peaklist.specs.PeakList.{peaksOf}
 use Rattle.peaklist.proofs.PeakListLaws.{peaks-length}
 use Rattle.matching.specs.declared.StitchParams.{StitchParams}
-use Rattle.distinct.specs.Distinct.{distinctIds}
+use Rattle.keys.specs.declared.KeyRule.the-variants.{Identity}
+use Rattle.grouping.specs.Grouping.{passOrder}
+use Rattle.distinct.specs.Distinct.{distinctIds, byIdentity}
+use Rattle.distinct.proofs.Laws.{order-length}
 use Rattle.passes.specs.Stitching.{stitched}
 use Rattle.passes.specs.Steps.{Stitched}
 use Rattle.stitch.specs.declared.numbers.Rooms.{Rooms}
 use Rattle.stitch.specs.declared.StitchAnswer.the-variants.{Stitched as Counted, Refused}
-use Rattle.stitch.specs.StitchNumber.{countIn, peaksIn, stitchNumber}
+use Rattle.stitch.specs.StitchNumber.{countIn, peaksIn, stitchNumber, otherNumber}
 use Rattle.stitch.specs.Answer.{Lent, numberFor, Answered}
-use Rattle.stitch.proofs.StitchNumberLaws.{none-for}
+use Rattle.stitch.proofs.StitchNumberLaws.{none-for, no-other}
 
--- what holds of a list that no number refuses
-pub record Accepted (list : List ℕ) (room : Rooms) : Type 0 where
+-- what holds of a list that no number but 8 refuses
+pub record Checked (list : List ℕ) (room : Rooms) : Type 0 where
   pub few : countIn list ≤ maxList
-  pub distinct-ids : distinctIds (peaksIn list) ≡ true
-  pub all-sound : allSound list (countIn list) ≡ true
   pub out : countIn list * size ≤ room .out
   pub owners : countIn list ≤ room .owners
   pub order : countIn list ≤ room .order
@@ -33,17 +36,15 @@ pub record Accepted (list : List ℕ) (room : Rooms) : Type 0 where
   pub keys : countIn list * size ≤ room .keys
   pub merged : countIn list * size ≤ room .merged
 
-pub accepted : (told : Bool) (list : List ℕ) (params : StitchParams) (room : Rooms) → stitchNumber told list params room ≡ 0 → Accepted list room
-accepted told list params room e =
+pub checked : (told : Bool) (list : List ℕ) (params : StitchParams) (room : Rooms) → otherNumber told list params room ≡ 0 → Checked list room
+checked told list params room e =
     let n = countIn list in
-    let r = neither (ltb (room .out) (n * size)) (none-for told list params room 20 e) in
-    let s = neither (ltb (room .order) n || ltb (room .groups) n || ltb (room .keys) (n * size)) (none-for told list params room 21 e) in
+    let r = neither (ltb (room .out) (n * size)) (no-other told list params room 20 e) in
+    let s = neither (ltb (room .order) n || ltb (room .groups) n || ltb (room .keys) (n * size)) (no-other told list params room 21 e) in
     let t = neither (ltb (room .order) n || ltb (room .groups) n) (s .0) in
     let u = neither (ltb (room .order) n) (t .0) in
     record {
-      few = ltb-false maxList n (none-for told list params room 2 e);
-      distinct-ids = not-false _ (none-for told list params room 8 e);
-      all-sound = not-false _ (none-for told list params room 9 e);
+      few = ltb-false maxList n (no-other told list params room 2 e);
       out = ltb-false (room .out) (n * size) (r .0);
       owners = ltb-false (room .owners) n (r .1);
       order = ltb-false (room .order) n (u .0);
@@ -51,6 +52,26 @@ accepted told list params room e =
       keys = ltb-false (room .keys) (n * size) (t .1);
       merged = ltb-false (room .merged) (n * size) (s .1);
     }
+
+-- what holds of a list that no number refuses
+pub record Accepted (list : List ℕ) : Type 0 where
+  pub few : countIn list ≤ maxList
+  pub distinct-ids : distinctIds (peaksIn list) ≡ true
+
+pub accepted : (told : Bool) (list : List ℕ) (params : StitchParams) (room : Rooms) → stitchNumber told list params room ≡ 0 → Accepted list
+accepted told list params room e =
+    record {
+      few = ltb-false maxList (countIn list) (none-for told list params room 2 e);
+      distinct-ids = not-false _ (none-for told list params room 8 e);
+    }
+
+-- the list of places, with those in the order of their identities put to its front
+pub put-first : (list : List ℕ) (n : ℕ) (was is : List ℕ) → is ≡ byIdentity (peaksOf list n) ++ drop n was
+    → (take n is ≡ passOrder Identity (peaksOf list n)) × (drop n is ≡ drop n was)
+put-first list n was is e = (
+  rw e (take-at (byIdentity (peaksOf list n)) (drop n was) n (order-length list n)),
+  rw e (drop-at (byIdentity (peaksOf list n)) (drop n was) n (order-length list n)),
+)
 
 -- ---- the answer
 

@@ -1,5 +1,5 @@
 -- Which number of document 01 a list to stitch is answered with, 0 for none.
-use mathlib.Core.Bool.{Bool, not, _&&_, _||_}
+use mathlib.Core.Bool.{Bool, cond, not, _&&_, _||_}
 use mathlib.Core.List.{List, [], _∷_}
 use mathlib.Core.Option.{none, some}
 use Prim.Native.Nat.{ℕ, _*_, _/_, _%_}
@@ -46,6 +46,15 @@ stitchChecks told list params room =
 
 unfoldable pub stitchNumber : Bool → List ℕ → StitchParams → Rooms → ℕ
 stitchNumber told list params room = firstOf (stitchChecks told list params room)
+
+-- the checks but for one number
+abbrev pub but : ℕ → List Check → List Check
+but n [] = []
+but n (c ∷ cs) = cond (eqb (c .number) n) (but n cs) (c ∷ but n cs)
+
+-- the lowest number but 8 that applies, 0 for none: the identities are looked at after all else
+unfoldable pub otherNumber : Bool → List ℕ → StitchParams → Rooms → ℕ
+otherNumber told list params room = firstOf (but 8 (stitchChecks told list params room))
 
 -- what an answer says: the count of stitched peaks, or the number that applies
 abbrev pub stitchSays : StitchAnswer → Says ℕ

@@ -30,20 +30,30 @@ pub fn stitch_told(
         keys: keys.len(),
         merged: merged.len(),
     };
-    let no = super::numbers::number(list, params, told, room);
+    // number 8 is found last, since what finds it leaves the order that stitching starts from
+    let no = super::numbers::other_number(list, params, told, room);
+    let n = list.len() / ImPeak1D::WORDS;
     if no == 0 {
-        let n = list.len() / ImPeak1D::WORDS;
-        return StitchAnswer::Stitched(passes::inner::stitch_peaks(
-            list,
-            n,
-            params,
-            out,
-            owners,
-            order,
-            groups,
-            keys,
-            merged,
-        ));
+        if distinct::inner::put_by_identity(list, n, order) {
+            return StitchAnswer::Stitched(passes::inner::stitch_peaks(
+                list,
+                n,
+                params,
+                out,
+                owners,
+                order,
+                groups,
+                keys,
+                merged,
+            ));
+        }
+        return StitchAnswer::Refused(8);
     }
-    StitchAnswer::Refused(no)
+    if no < 8 {
+        return StitchAnswer::Refused(no);
+    }
+    if distinct::inner::all_distinct(list, n) {
+        return StitchAnswer::Refused(no);
+    }
+    StitchAnswer::Refused(8)
 }

@@ -2,7 +2,7 @@
 use matching::StitchParams;
 use record::ImPeak1D;
 ghost use mathlib.Core.Path.{_≡_};
-ghost use Rattle.stitch.specs.StitchNumber.{stitchNumber};
+ghost use Rattle.stitch.specs.StitchNumber.{otherNumber};
 
 // The lengths of the lists that are lent.
 pub struct Rooms {
@@ -14,9 +14,9 @@ pub struct Rooms {
     pub merged: usize,
 }
 
-// The lowest number that applies, or 0. Where `told` is false number 4 applies whatever the parameters are.
-pub fn number(list: &[u32], params: StitchParams, told: bool, room: Rooms) -> u32
-    ensures { λ r. ⌜ r ≡ stitchNumber told (now (list .entry)) params room ⌝ }
+// The lowest number but 8 that applies, or 0. Where `told` is false number 4 applies whatever the parameters are.
+pub fn other_number(list: &[u32], params: StitchParams, told: bool, room: Rooms) -> u32
+    ensures { λ r. ⌜ r ≡ otherNumber told (now (list .entry)) params room ⌝ }
 {
     if list.len() % ImPeak1D::WORDS != 0 {
         return 1;
@@ -27,9 +27,6 @@ pub fn number(list: &[u32], params: StitchParams, told: bool, room: Rooms) -> u3
     }
     if !(told & matching::inner::sound_stitch_params(params)) {
         return 4;
-    }
-    if !distinct::inner::all_distinct(list, n) {
-        return 8;
     }
     if !record::inner::all_sound(list, n) {
         return 9;
