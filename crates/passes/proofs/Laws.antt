@@ -9,28 +9,28 @@ use native.Mathlib.Omega.{arith}
 use native.Mathlib.Numerals.{add-one}
 use borrow.Author.Tests.{eqb-true, eqb-false}
 use lib.Dec.{eqb}
-use lib.ListN.{length, getD, take, drop, set, length-map, length-append, length-drop, take-append-drop, List·getD-append}
+use lib.ListN.{length, getD, take, drop, set, length-map, length-append, length-drop, take-append-drop, drop-of-length-le, List·getD-append}
 use lib.Seq.{drop-cons, drop-drop, drop-at, take-at, take-suc, set-at, getD-at, length-take-le, getD-append-add, getD-take, getD-drop, ext-getD, sets, sets-eq, take-add}
 use Rattle.refusal.proofs.Bools.{both}
 use Rattle.record.specs.Record.{size, peakAt}
 use Rattle.record.proofs.RoundTrip.{own-words}
 use Rattle.record.specs.declared.ImPeak1D.{ImPeak1D}
-use Rattle.peaklist.specs.PeakList.{peaksOf, listWords}
+use Rattle.peaklist.specs.PeakList.{nth, peaksOf, listWords}
 use Rattle.peaklist.specs.PeakListLaws.{AllFit}
 use Rattle.peaklist.proofs.PeakListLaws.{peaks-length, nth-peaks, words-length, read-back}
 use Rattle.digits.specs.Sorted.{sortedBy, row, upTo}
-use Rattle.digits.proofs.SortedLaws.{at-index}
-use Rattle.digits.proofs.UpTo.{front-map, same-map, upto-get, upto-length}
+use Rattle.digits.proofs.SortedLaws.{at-index, sort-same, sort-none}
+use Rattle.digits.proofs.UpTo.{front-map, same-map, upto-get, upto-length, upto-lt}
 use Rattle.matching.specs.declared.StitchParams.{StitchParams}
 use Rattle.keys.specs.declared.KeyRule.{KeyRule}
-use Rattle.keys.specs.declared.KeyRule.the-variants.{First}
-use Rattle.keys.specs.Keys.{widthOf, keyTable}
-use Rattle.keys.proofs.KeysLaws.{width-most, table-length, table-sorts}
+use Rattle.keys.specs.declared.KeyRule.the-variants.{First, Identity}
+use Rattle.keys.specs.Keys.{keyOf, widthOf, keyTable}
+use Rattle.keys.proofs.KeysLaws.{key-width, width-most, table-length, table-row, table-sorts}
 use Rattle.grouping.specs.Grouping.{groups, groupPeaks, passOrder, passGroups, numberIn}
 use Rattle.grouping.specs.Walk.{Gathered, Columned, Grouped, marked}
 use Rattle.grouping.proofs.Laws.{fill-behind}
 use Rattle.passes.specs.Stitching.{firstGroups, firstPeaks, secondGroups, ownerOf, ownersOf}
-use Rattle.passes.specs.Steps.{recordsAt, Within, Passed}
+use Rattle.passes.specs.Steps.{recordsAt, restOrder, Within, Passed}
 use Rattle.passes.proofs.PassLaws.{order-length, order-lt, pass-column, pass-count, pass-number, first-length, column-at, handed}
 
 -- ---- records that are gathered
@@ -117,6 +117,20 @@ later x y m n h e =
     let k : m + (n - m) ≡ n = omega arith in
     subst (λ (j : ℕ). drop j x ≡ drop j y) k (sym (drop-drop (n - m) m x) ∙ ap (drop (n - m)) e ∙ drop-drop (n - m) m y)
 
+-- ---- orders by the last words of keys
+
+-- the last word of a key of the first pass is the identity
+pub by-identity : (params : StitchParams) (ps : List ImPeak1D) → passOrder Identity ps ≡ restOrder (First params) 7 ps
+unfolding keyOf
+by-identity params ps = refl
+
+-- behind the last word there is none: places are in that order as they stand
+pub by-none : (rule : KeyRule) (ps : List ImPeak1D) → upTo (length ps) ≡ restOrder rule (widthOf rule) ps
+by-none rule ps =
+    let none : (k : ℕ) → drop (widthOf rule) (keyOf rule (nth ps k)) ≡ [] = λ k. drop-of-length-le (keyOf rule (nth ps k)) {i = widthOf rule} (omega (arith, key-width rule (nth ps k))) in
+    sym (sort-none (upTo (length ps)))
+    ∙ sort-same (λ p. []) (λ k. drop (widthOf rule) (keyOf rule (nth ps k))) (upTo (length ps)) (λ p q i j. rw (none p, none q))
+
 -- ---- what the steps of a pass leave
 
 -- the keys and the order of the first n records of a list
@@ -125,6 +139,15 @@ module _ (list : List ℕ) (n : ℕ) (rule : KeyRule) (params : StitchParams) wh
   ordered keys rest order w e f g =
       let l = peaks-length list n in
       g ∙ ap (λ (m : ℕ). sortedBy (row keys w) (upTo m)) (sym l) ∙ rw (e, f) (table-sorts rule (peaksOf list n) rest)
+
+  -- the words of a row from one on are those of the key
+  pub rest-ordered : (words : ℕ) (keys rest order : List ℕ) (w : ℕ) → keys ≡ keyTable rule (peaksOf list n) ++ rest → w ≡ widthOf rule → order ≡ restOrder rule words (peaksOf list n)
+      → order ≡ sortedBy (λ p. drop words (row keys w p)) (upTo n)
+  rest-ordered words keys rest order w e f g =
+      let ps = peaksOf list n in
+      g ∙ sym (sort-same (λ p. drop words (row keys w p)) (λ k. drop words (keyOf rule (nth ps k))) (upTo (length ps))
+      (λ p q i j. rw (e, f, table-row rule ps rest p (upto-lt (length ps) p i), table-row rule ps rest q (upto-lt (length ps) q j))))
+      ∙ ap (λ (m : ℕ). sortedBy (λ p. drop words (row keys w p)) (upTo m)) (peaks-length list n)
 
   module _ (order : List ℕ) (e : order ≡ passOrder rule (peaksOf list n)) (room : n * size ≤ length list) where
     pub order-size : length order ≡ n

@@ -5,10 +5,11 @@ use Prim.Native.Nat.{ℕ, _+_, _*_, _≤_}
 use lib.ListN.{length, take, drop}
 use Rattle.record.specs.Record.{size}
 use Rattle.record.specs.declared.ImPeak1D.{ImPeak1D}
-use Rattle.peaklist.specs.PeakList.{listWords}
-use Rattle.digits.specs.Sorted.{upTo}
+use Rattle.peaklist.specs.PeakList.{nth, listWords}
+use Rattle.digits.specs.Sorted.{upTo, sortedBy}
 use Rattle.matching.specs.declared.StitchParams.{StitchParams}
 use Rattle.keys.specs.declared.KeyRule.{KeyRule}
+use Rattle.keys.specs.Keys.{keyOf}
 use Rattle.grouping.specs.Grouping.{passGroups, passPeaks, numberIn}
 use Rattle.passes.specs.Stitching.{stitched, ownersOf}
 
@@ -20,6 +21,10 @@ recordsAt list (p ∷ qs) = take size (drop (p * size) list) ++ recordsAt list q
 -- every place is that of a record of the list
 abbrev pub Within : List ℕ → List ℕ → Type 0
 Within list order = (p : ℕ) → List·Memᴰ p order → p * size + size ≤ length list
+
+-- the places of peaks in the order of the words of their keys from `words` on
+abbrev pub restOrder : KeyRule → ℕ → List ImPeak1D → List ℕ
+restOrder rule words ps = sortedBy (λ k. drop words (keyOf rule (nth ps k))) (upTo (length ps))
 
 -- What a pass over the peaks ps leaves: how many groups there are, their merged peaks at the front of `out`, the number of each peak's
 -- group at the front of `column`; of `keys` no more is used than a record a peak has.

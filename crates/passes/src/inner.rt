@@ -11,8 +11,9 @@ ghost use mathlib.Core.Bool.{true};
 ghost use Rattle.peaklist.specs.PeakList.{peaksOf};
 ghost use Rattle.digits.specs.Sorted.{upTo};
 ghost use Rattle.keys.specs.declared.KeyRule.the-variants.{Identity};
+ghost use Rattle.keys.specs.Keys.{widthOf};
 ghost use Rattle.grouping.specs.Grouping.{passOrder};
-ghost use Rattle.passes.specs.Steps.{recordsAt, Passed, Within, Stitched};
+ghost use Rattle.passes.specs.Steps.{recordsAt, restOrder, Passed, Within, Stitched};
 
 // Copies the first nine words of one list to the front of another: all are read before one is written, so that several are moved
 // at a time.
@@ -97,7 +98,7 @@ fn stands(order: &[u32]) -> bool
 
 // One pass over as many records of `list` as `order` has places: the merged peaks to the front of `out`, and for each place the
 // number of its group to the front of `column`. `keys` holds the keys first, and then the records in their order, unless they stand
-// so in `list`. Returns how many groups there are.
+// so in `list`. `order` has the places in the order of the words of their keys from `words` on. Returns how many groups there are.
 fn pass(
     list: &[u32],
     rule: KeyRule,
@@ -106,14 +107,16 @@ fn pass(
     column: &mut [u32],
     keys: &mut [u32],
     out: &mut [u32],
+    words: usize,
 ) -> usize
     requires { ⌜ (length (now order) * size ≤ length (now list)) × (length (now order) ≤ length (now column))
-        × (length (now order) * size ≤ length (now keys)) × (length (now order) * size ≤ length (now out)) × (length (now order) ≤ 4294967296) ⌝ }
+        × (length (now order) * size ≤ length (now keys)) × (length (now order) * size ≤ length (now out)) × (length (now order) ≤ 4294967296)
+        × (words ≤ widthOf rule) × (now order ≡ restOrder rule words (peaksOf (now list) (length (now order)))) ⌝ }
     ensures { λ r. ⌜ Passed rule params (peaksOf (now (list .entry)) (length (now (order .entry)))) (now (column .entry)) (now (keys .entry)) (now (out .entry)) r (now (column .exit)) (now (keys .exit)) (now (out .exit)) ⌝ }
 {
     let n = order.len();
     keys::inner::put_keys(list, n, rule, keys);
-    leading::inner::order_rows(keys, keys::inner::width_of(rule), order, column);
+    leading::inner::order_rows(keys, keys::inner::width_of(rule), words, order, column);
     if stands(order) {
         return grouping::inner::put_groups(list, order, rule, params, out, column);
     }
@@ -122,6 +125,36 @@ fn pass(
 }
 
 // The same over the first n records, with the front of `order`.
+fn pass_from(
+    list: &[u32],
+    n: usize,
+    rule: KeyRule,
+    params: StitchParams,
+    order: &mut [u32],
+    column: &mut [u32],
+    keys: &mut [u32],
+    out: &mut [u32],
+    words: usize,
+) -> usize
+    requires { ⌜ (n * size ≤ length (now list)) × (n ≤ length (now order)) × (n ≤ length (now column))
+        × (n * size ≤ length (now keys)) × (n * size ≤ length (now out)) × (n ≤ 4294967296)
+        × (words ≤ widthOf rule) × (take n (now order) ≡ restOrder rule words (peaksOf (now list) n)) ⌝ }
+    ensures passed { λ r. ⌜ Passed rule params (peaksOf (now (list .entry)) n) (now (column .entry)) (now (keys .entry)) (now (out .entry)) r (now (column .exit)) (now (keys .exit)) (now (out .exit)) ⌝ }
+    ensures order { λ _. ⌜ drop n (now (order .exit)) ≡ drop n (now (order .entry)) ⌝ }
+{
+    pass(
+        list,
+        rule,
+        params,
+        &mut order[..n],
+        column,
+        keys,
+        out,
+        words,
+    )
+}
+
+// The same, whatever `order` has.
 fn pass_over(
     list: &[u32],
     n: usize,
@@ -137,7 +170,18 @@ fn pass_over(
     ensures passed { λ r. ⌜ Passed rule params (peaksOf (now (list .entry)) n) (now (column .entry)) (now (keys .entry)) (now (out .entry)) r (now (column .exit)) (now (keys .exit)) (now (out .exit)) ⌝ }
     ensures order { λ _. ⌜ drop n (now (order .exit)) ≡ drop n (now (order .entry)) ⌝ }
 {
-    pass(list, rule, params, &mut order[..n], column, keys, out)
+    digits::inner::count_up(&mut order[..n]);
+    pass_from(
+        list,
+        n,
+        rule,
+        params,
+        order,
+        column,
+        keys,
+        out,
+        keys::inner::width_of(rule),
+    )
 }
 
 // Puts in the place of each of the first n numbers what `numbers` has there.
@@ -175,7 +219,7 @@ pub fn stitch_peaks(
     ensures keys { λ _. ⌜ drop (n * size) (now (keys .exit)) ≡ drop (n * size) (now (keys .entry)) ⌝ }
     ensures merged { λ _. ⌜ drop (n * size) (now (merged .exit)) ≡ drop (n * size) (now (merged .entry)) ⌝ }
 {
-    let m = pass_over(
+    let m = pass_from(
         list,
         n,
         KeyRule::First(params),
@@ -184,6 +228,7 @@ pub fn stitch_peaks(
         owners,
         keys,
         merged,
+        7,
     );
     let found = pass_over(
         &merged[..m * ImPeak1D::WORDS],

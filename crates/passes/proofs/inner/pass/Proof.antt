@@ -1,4 +1,4 @@
-use mathlib.Core.Path.{_≡_, sym, ap, _∙_}
+use mathlib.Core.Path.{_≡_}
 use Prim.Native.Nat.{ℕ, _≤_, _+_, _*_}
 use native.Mathlib.Nat.{mul-le-mul-left, mul-add}
 use native.Mathlib.Omega.{arith}
@@ -9,7 +9,7 @@ use Rattle.keys.specs.Keys.{widthOf}
 use Rattle.keys.proofs.KeysLaws.{width-most}
 use Rattle.peaklist.specs.PeakList.{peaksOf}
 use Rattle.grouping.specs.Grouping.{passOrder}
-use Rattle.passes.proofs.Laws.{later, ordered, order-size, in-list, in-column, gathered, standing, keys-only, keys-rest, finished}
+use Rattle.passes.proofs.Laws.{later, ordered, rest-ordered, order-size, in-list, in-column, gathered, standing, keys-only, keys-rest, finished}
 use Rattle.passes.proofs.inner.pass.Statement.{statement}
 use Rattle.passes.proofs.inner.pass.Tie as tie
 
@@ -34,16 +34,22 @@ order-rows-requires c κs = let s = c .before .before .before .before .before .b
     let w = c .before .before .width-of in
     let n = length (s .args .order .now) in
     let e : n * w .result + n * 4 ≤ length (put .last .1 .1 .1 .0) = rw (w .ensures, put .kept .1 .1 .1 .0) (few-led n (widthOf (s .args .rule)) (length (s .args .keys .now)) (width-most (s .args .rule)) (s .pre .2)) in
-    (e, s .pre .4, s .pre .1)
+    let list = s .args .list .now in (
+      rw (w .ensures) (s .pre .5),
+      e,
+      s .pre .4,
+      s .pre .1,
+      rest-ordered list n (s .args .rule) (s .args .params) (s .args .words) (put .last .1 .1 .1 .0) (drop (n * widthOf (s .args .rule)) (s .args .keys .now)) (s .args .order .now) (w .result) (put .ensures) (w .ensures) (s .pre .6),
+    )
 
 module _ (c : tie.After-order-rows) where
-  sorted-order : c .order-rows .last .1 .1 .0 ≡ passOrder (c .before .before .before .before .before .before .before .before .before .before .before .before .before .before .args .rule) (peaksOf (c .before .before .before .before .before .before .before .before .before .before .before .before .before .before .args .list .now) (length (c .before .before .before .before .before .before .before .before .before .before .before .before .before .before .args .order .now)))
+  sorted-order : c .order-rows .last .1 .1 .1 .0 ≡ passOrder (c .before .before .before .before .before .before .before .before .before .before .before .before .before .before .args .rule) (peaksOf (c .before .before .before .before .before .before .before .before .before .before .before .before .before .before .args .list .now) (length (c .before .before .before .before .before .before .before .before .before .before .before .before .before .before .args .order .now)))
   sorted-order = let s = c .before .before .before .before .before .before .before .before .before .before .before .before .before .before in
       let put = c .before .before .before .before .before .before .before .put-keys in
-      ordered (s .args .list .now) (length (s .args .order .now)) (s .args .rule) (s .args .params) (put .last .1 .1 .1 .0) (drop (length (s .args .order .now) * widthOf (s .args .rule)) (s .args .keys .now)) (c .order-rows .last .1 .1 .0) (c .before .before .before .width-of .result) (put .ensures) (c .before .before .before .width-of .ensures) (c .order-rows .ensures .0)
+      ordered (s .args .list .now) (length (s .args .order .now)) (s .args .rule) (s .args .params) (put .last .1 .1 .1 .0) (drop (length (s .args .order .now) * widthOf (s .args .rule)) (s .args .keys .now)) (c .order-rows .last .1 .1 .1 .0) (c .before .before .before .width-of .result) (put .ensures) (c .before .before .before .width-of .ensures) (c .order-rows .ensures .0)
 
-  as-many : length (c .order-rows .last .1 .1 .0) ≡ length (c .before .before .before .before .before .before .before .before .before .before .before .before .before .before .args .order .now)
-  as-many = let s = c .before .before .before .before .before .before .before .before .before .before .before .before .before .before in order-size (s .args .list .now) (length (s .args .order .now)) (s .args .rule) (s .args .params) (c .order-rows .last .1 .1 .0) sorted-order (s .pre .0)
+  as-many : length (c .order-rows .last .1 .1 .1 .0) ≡ length (c .before .before .before .before .before .before .before .before .before .before .before .before .before .before .args .order .now)
+  as-many = let s = c .before .before .before .before .before .before .before .before .before .before .before .before .before .before in order-size (s .args .list .now) (length (s .args .order .now)) (s .args .rule) (s .args .params) (c .order-rows .last .1 .1 .1 .0) sorted-order (s .pre .0)
 
   -- what the table holds behind a record a peak is kept
   behind : drop (length (c .before .before .before .before .before .before .before .before .before .before .before .before .before .before .args .order .now) * size) (c .order-rows .last .0) ≡ drop (length (c .before .before .before .before .before .before .before .before .before .before .before .before .before .before .args .order .now) * size) (c .before .before .before .before .before .before .before .put-keys .last .1 .1 .1 .0)
@@ -60,12 +66,12 @@ put-groups-requires : tie.Need-put-groups-requires
 put-groups-requires c κs = let s = c .before .before .before .before .before .before .before .before .before .before .before .before .before .before .before .before .before .before .before .before .before .before .before .before .before .before in
     let at = c .before .before .before .before .before .before .before .before .before .before .before .before in
     let e = sorted-order at in
-    let order = at .order-rows .last .1 .1 .0 in
-    let column = at .order-rows .last .1 .1 .1 .0 in
+    let order = at .order-rows .last .1 .1 .1 .0 in
+    let column = at .order-rows .last .1 .1 .1 .1 .0 in
     let n = length (s .args .order .now) in
     let l = as-many at in (
       omega (arith, l, s .pre .0),
-      in-column (s .args .list .now) n (s .args .rule) (s .args .params) order e (s .pre .0) column (omega (arith, at .order-rows .kept .1 .1 .1 .0, s .pre .1)),
+      in-column (s .args .list .now) n (s .args .rule) (s .args .params) order e (s .pre .0) column (omega (arith, at .order-rows .kept .1 .1 .1 .1 .0, s .pre .1)),
       omega (arith, l, s .pre .3),
       omega (arith, l, s .pre .4),
     )
@@ -88,15 +94,15 @@ returns c = let s = c .before .before .before .before .before .before .before .b
     let put = c .before .before .before .before .before .before .before .before .before .before .before .before .before .before .before .before .before .before .before .before .before .before .before .before .put-keys in
     let put-groups = c .before .before .before .before .put-groups in
     let e = sorted-order at in
-    let order = at .order-rows .last .1 .1 .0 in
-    let column = at .order-rows .last .1 .1 .1 .0 in
+    let order = at .order-rows .last .1 .1 .1 .0 in
+    let column = at .order-rows .last .1 .1 .1 .1 .0 in
     let list = s .args .list .now in
     let n = length (s .args .order .now) in
     let rule = s .args .rule in
     let params = s .args .params in
     finished list n rule params order e (s .pre .0) (s .args .out .now) (s .args .column .now) (s .args .keys .now) column (at .order-rows .last .0) (put-groups .result) (put-groups .last .1 .1 .1 .1 .0) (put-groups .last .1 .1 .1 .1 .1 .0)
     (put-groups .ensures (peaksOf list n) (standing list n rule params order e (s .pre .0) (c .before .before .before .before .before .before .before .before .before .stands .ensures (c .before .before .before .before .before .before .before .before .if1 .taken))))
-    (omega (arith, at .order-rows .kept .1 .1 .1 .0, s .pre .1))
+    (omega (arith, at .order-rows .kept .1 .1 .1 .1 .0, s .pre .1))
     (at .order-rows .ensures .1 .0)
     (keys-only list n rule params order e (s .pre .0) (s .args .keys .now) (put .last .1 .1 .1 .0) (at .order-rows .last .0) (put .ensures) (behind at))
 
@@ -104,7 +110,7 @@ gather-requires : tie.Need-gather-requires
 gather-requires c κs = let s = c .before .before .before .before .before .before .before .before .before .before .before .before .before .before .before .before .before .before .before .before .before .before .before .before .before in
     let at = c .before .before .before .before .before .before .before .before .before .before .before in
     let put = c .before .before .before .before .before .before .before .before .before .before .before .before .before .before .before .before .before .before .put-keys in
-    let order = at .order-rows .last .1 .1 .0 in
+    let order = at .order-rows .last .1 .1 .1 .0 in
     let n = length (s .args .order .now) in
     (in-list (s .args .list .now) n (s .args .rule) (s .args .params) order (sorted-order at) (s .pre .0), omega (arith, as-many at, at .order-rows .kept .0, put .kept .1 .1 .1 .0, s .pre .2))
 
@@ -113,12 +119,12 @@ put-groups-requires-2 c κs = let s = c .before .before .before .before .before 
     let at = c .before .before .before .before .before .before .before .before .before .before .before .before .before .before .before .before .before .before in
     let put = c .before .before .before .before .before .before .before .before .before .before .before .before .before .before .before .before .before .before .before .before .before .before .before .before .before .put-keys in
     let e = sorted-order at in
-    let order = at .order-rows .last .1 .1 .0 in
-    let column = at .order-rows .last .1 .1 .1 .0 in
+    let order = at .order-rows .last .1 .1 .1 .0 in
+    let column = at .order-rows .last .1 .1 .1 .1 .0 in
     let n = length (s .args .order .now) in
     let l = as-many at in (
       omega (arith, l, c .before .before .before .before .before .before .gather .kept .1 .1 .0, at .order-rows .kept .0, put .kept .1 .1 .1 .0, s .pre .2),
-      in-column (s .args .list .now) n (s .args .rule) (s .args .params) order e (s .pre .0) column (omega (arith, at .order-rows .kept .1 .1 .1 .0, s .pre .1)),
+      in-column (s .args .list .now) n (s .args .rule) (s .args .params) order e (s .pre .0) column (omega (arith, at .order-rows .kept .1 .1 .1 .1 .0, s .pre .1)),
       omega (arith, l, s .pre .3),
       omega (arith, l, s .pre .4),
     )
@@ -142,15 +148,15 @@ returns-2 c = let s = c .before .before .before .before .before .before .before 
     let gather = c .before .before .before .before .before .before .before .before .before .before .before .gather in
     let put-groups = c .before .before .before .before .put-groups2 in
     let e = sorted-order at in
-    let order = at .order-rows .last .1 .1 .0 in
-    let column = at .order-rows .last .1 .1 .1 .0 in
+    let order = at .order-rows .last .1 .1 .1 .0 in
+    let column = at .order-rows .last .1 .1 .1 .1 .0 in
     let list = s .args .list .now in
     let n = length (s .args .order .now) in
     let rule = s .args .rule in
     let params = s .args .params in
     finished list n rule params order e (s .pre .0) (s .args .out .now) (s .args .column .now) (s .args .keys .now) column (gather .last .1 .1 .0) (put-groups .result) (put-groups .last .1 .1 .1 .1 .0) (put-groups .last .1 .1 .1 .1 .1 .0)
     (put-groups .ensures (peaksOf list n) (gathered list n rule params order e (s .pre .0) (gather .last .1 .1 .0) (drop (length order * size) (at .order-rows .last .0)) (gather .ensures)))
-    (omega (arith, at .order-rows .kept .1 .1 .1 .0, s .pre .1))
+    (omega (arith, at .order-rows .kept .1 .1 .1 .1 .0, s .pre .1))
     (at .order-rows .ensures .1 .0)
     (keys-rest list n rule params order e (s .pre .0) (s .args .keys .now) (put .last .1 .1 .1 .0) (at .order-rows .last .0) (gather .last .1 .1 .0) (put .ensures) (behind at) (gather .ensures))
 

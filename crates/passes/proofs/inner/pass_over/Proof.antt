@@ -1,21 +1,46 @@
-use mathlib.Core.Path.{_≡_, _∙_}
+use mathlib.Core.Path.{_≡_, sym, _∙_, ap}
 use native.Mathlib.Omega.{arith}
 use borrow.Author.Needs.{needs}
 use lib.ListN.{length, drop, take}
-use lib.Seq.{length-take-le, drop-at}
+use lib.ListN.{length-append}
+use lib.Seq.{length-take-le, take-at, drop-at}
+use Rattle.peaklist.specs.PeakList.{peaksOf}
+use Rattle.peaklist.proofs.PeakListLaws.{peaks-length}
+use Rattle.digits.specs.Sorted.{upTo}
+use Rattle.passes.proofs.Laws.{by-none}
 use Rattle.passes.proofs.inner.pass_over.Statement.{statement}
 use Rattle.passes.proofs.inner.pass_over.Tie as tie
 
-slice-relend-prefix-pass : tie.Need-slice-relend-prefix-pass
-slice-relend-prefix-pass c = search needs
+slice-relend-prefix-count-up : tie.Need-slice-relend-prefix-count-up
+slice-relend-prefix-count-up c = search needs
 
-slice-aggregate-pass : tie.Need-slice-aggregate-pass
-slice-aggregate-pass c = let s = c .before .before .before .before .before .before in omega (arith, length-take-le (s .args .n) (s .args .order .now) (s .pre .1))
+slice-aggregate-count-up : tie.Need-slice-aggregate-count-up
+slice-aggregate-count-up c = let s = c .before .before .before .before .before .before in sym (length-take-le (s .args .n) (s .args .order .now) (s .pre .1))
 
-pass-requires : tie.Need-pass-requires
-pass-requires c κs = let s = c .before .before .before .before .before .before .before .before .before in
-    let e : length (take (s .args .n) (s .args .order .now)) ≡ s .args .n = length-take-le (s .args .n) (s .args .order .now) (s .pre .1) in
-    rw e (s .pre .0, s .pre .2, s .pre .3, s .pre .4, s .pre .5)
+count-up-requires : tie.Need-count-up-requires
+count-up-requires c κs = let s = c .before .before .before .before .before .before in omega (arith, length-take-le (s .args .n) (s .args .order .now) (s .pre .1), s .pre .5)
+
+width-of-requires : tie.Need-width-of-requires
+width-of-requires c κs = search needs
+
+pass-from-requires : tie.Need-pass-from-requires
+pass-from-requires c κs = let s = c .before .before .before .before .before .before .before .before .before .before .before .before .before .before in
+    let up = c .before .before .before .before .before .before .before .count-up in
+    let n = s .args .n in
+    let order = s .args .order .now in
+    let ps = peaksOf (s .args .list .now) n in
+    let front : length (take n order) ≡ n = length-take-le n order (s .pre .1) in
+    let l : length (up .last .0) ≡ n = up .kept .0 ∙ front in
+    let counted : up .last .0 ≡ upTo (length ps) = up .ensures ∙ ap upTo (front ∙ sym (peaks-length (s .args .list .now) n)) in (
+      s .pre .0,
+      simp length-append (omega (arith, l)),
+      s .pre .2,
+      s .pre .3,
+      s .pre .4,
+      s .pre .5,
+      rw (c .width-of .ensures) (omega arith),
+      take-at (up .last .0) (drop n order) n l ∙ counted ∙ rw (c .width-of .ensures) (by-none (s .args .rule) ps),
+    )
 
 same-length : tie.Need-same-length
 same-length c = search needs
@@ -30,20 +55,22 @@ same-length-4 : tie.Need-same-length-4
 same-length-4 c = search needs
 
 returns : tie.Need-returns
-returns c = let s = c .before .before .before .before .before .before .before .before .before .before .before .before .before .before .before .before .before .before in
-    let g = c .before .before .before .before .before .before .before .before .pass in
+returns c = let s = c .before .before .before .before .before .before .before .before .before .before .before .before .before .before .before .before .before .before .before .before .before .before .before in
+    let from = c .before .before .before .before .before .before .before .before .pass-from in
+    let up = c .before .before .before .before .before .before .before .before .before .before .before .before .before .before .before .before .count-up in
     let n = s .args .n in
     let order = s .args .order .now in
-    let e : length (take n order) ≡ n = length-take-le n order (s .pre .1) in
-    (rw e at (g .ensures), drop-at (g .last .1 .1 .1 .0) (drop n order) n (g .kept .1 .1 .1 .0 ∙ e))
+    (from .ensures .0, from .ensures .1 ∙ drop-at (up .last .0) (drop n order) n (up .kept .0 ∙ length-take-le n order (s .pre .1)))
 
 pub pass-over-spec : {M : Type 1} → statement M
 pass-over-spec =
     tie.close
     (tie.spec
-    slice-relend-prefix-pass
-    slice-aggregate-pass
-    pass-requires
+    slice-relend-prefix-count-up
+    slice-aggregate-count-up
+    count-up-requires
+    width-of-requires
+    pass-from-requires
     same-length
     same-length-2
     same-length-3
