@@ -1,5 +1,5 @@
 -- Identities in order.
-use mathlib.Core.Path.{_≡_, refl, sym, ap, subst, _∙_}
+use mathlib.Core.Path.{_≡_, refl, sym, ap, _∙_}
 use mathlib.Core.Bool.{Bool, true, false, cond, not, _&&_, _||_}
 use mathlib.Core.List.{List, [], _∷_, _++_, map, List·Memᴰ}
 use mathlib.Core.List.{List·Memᴰ·head as here, List·Memᴰ·tail as there}
@@ -18,7 +18,7 @@ use Rattle.peaklist.proofs.PeakListLaws.{peaks-length, nth-peaks}
 use Rattle.digits.specs.Sorted.{lexLt, inserted, sortedBy, row, upTo, Ascending}
 use Rattle.digits.proofs.SortedLaws.{sort-ascending, sort-given, sort-length, sort-sorted, sort-same, at-index, lower-first, asymmetric}
 use Rattle.digits.proofs.UpTo.{upto-length, upto-lt, front-map}
-use Rattle.ordering.proofs.Laws.{Up, up-none, up-next}
+use Rattle.ordering.proofs.Laws.{Up, up-all}
 use Rattle.keys.specs.declared.KeyRule.the-variants.{Identity}
 use Rattle.keys.specs.Keys.{keyOf, widthOf, keyTable}
 use Rattle.keys.proofs.KeysLaws.{table-sorts}
@@ -68,16 +68,8 @@ rises-more words k o r h j b = go (ltb (j + 1) k) refl
 abbrev idKey : List ℕ → ℕ → List ℕ
 idKey words k = idAt words k ∷ []
 
-rises-up : (words : List ℕ) (n : ℕ) → Rises words n → (k : ℕ) → k < n → Up (idKey words) k
-rises-up words n r zero h = up-none (idKey words)
-rises-up words n r (suc k) h =
-    let d : k ≡ suc k - 1 = omega arith in
-    let e : suc k + 1 - 1 ≡ suc k = omega arith in
-    let above : idAt words k < idAt words (suc k) = subst (λ j. idAt words k < idAt words j) (add-one k) (r k (omega arith)) in
-    let after : lexLt (idKey words (suc k)) (idKey words k) ≡ false
-    = asymmetric (idKey words k) (idKey words (suc k)) (lower-first (idAt words k) (idAt words (suc k)) [] [] above) in
-    subst (Up (idKey words)) e
-    (up-next (idKey words) (suc k) (omega arith) (subst (Up (idKey words)) d (rises-up words n r k (omega arith))) (subst (λ j. lexLt (idKey words (suc k)) (idKey words j) ≡ false) d after))
+rises-up : (words : List ℕ) (n : ℕ) → Rises words n → Up (idKey words) (n - 1)
+rises-up words n r k h = asymmetric (idKey words k) (idKey words (k + 1)) (lower-first (idAt words k) (idAt words (k + 1)) [] [] (r k (omega arith)))
 
 -- the places of identities that rise are in their order
 pub rises-order : (words : List ℕ) (n : ℕ) → Rises words n → byIdentity (peaksOf words n) ≡ upTo n
@@ -89,7 +81,7 @@ rises-order words n r =
   where
     up : (m : ℕ) → Rises words m → Ascending (idKey words) (upTo m)
     up zero r = tt
-    up (suc m) r = rises-up words (suc m) r m (omega arith) .0
+    up (suc m) r = up-all (idKey words) (suc m) (suc m) (omega arith) (omega arith) (omega arith) (rises-up words (suc m) r)
 
 -- ---- neighbours in a list that ascends
 

@@ -102,11 +102,16 @@ fn in_1024(list: &[u32], n: usize, to: &mut [u32]) -> bool
     by_order(list, n, to, &mut ids, &mut order, &mut spare)
 }
 
+// Its first test is never met, as the promise asks. With it the function calls itself, so a compiler does not take it into its caller, and
+// lists that are shorter, or whose identities rise, do not pay for a frame of 768 KiB.
 fn in_65536(list: &[u32], n: usize, to: &mut [u32]) -> bool
     requires { ⌜ (n * size ≤ length (now list)) × (n ≤ maxList) × (length (now to) ≤ n) ⌝ }
     ensures distinct { λ r. ⌜ r ≡ distinctIds (peaksOf (now (list .entry)) n) ⌝ }
     ensures order { λ r. ⌜ now (to .exit) ≡ cond r (take (length (now (to .entry))) (byIdentity (peaksOf (now (list .entry)) n))) (now (to .entry)) ⌝ }
 {
+    if n > 65536 {
+        return !in_65536(list, 0, to);
+    }
     let mut ids = [0u32; 65536];
     let mut order = [0u32; 65536];
     let mut spare = [0u32; 65536];
