@@ -12,16 +12,11 @@ use lib.Ieee.Scale.{round-same}
 use Rattle.numeric.specs.Arith.{_⊕_, _⊖_, _⊘_, 𝟎, 𝟏, indexF}
 use Rattle.numeric.specs.Numeric.{maxF}
 use Rattle.numeric.proofs.Laws.{and-true}
-use Rattle.numeric.proofs.Order.{le-no-nan, le-not-lt}
+use Rattle.numeric.proofs.Order.{le-not-lt, max-above}
 use Rattle.numeric.proofs.Patterns.{pattern, plus-bits}
 use Rattle.numeric.proofs.Bounds.{one, one-pos, mag, Num, Rep, AtMost, mag-is, rep, rep-scale, exact, limitF, limit-num, le-mag, round-at-most, round-at-least, add-is, sub-is, div-is, mag-zero, mag-one, mag-readings, num-zero, num-one}
 use Rattle.refusal.proofs.Bools.{all4, and-false}
 use Rattle.matching.specs.Matching.{samples, overlap, jaccardF, enoughCommon}
-
--- the higher of two, where the first is
-pub max-above : (u v : Float) → le v u ≡ true → maxF u v ≡ u
-unfolding maxF
-max-above u v h = rw (le-no-nan v u h .1, le-not-lt u v h)
 
 -- ---- floats with a clear sign
 

@@ -5,8 +5,6 @@ ghost use mathlib.Core.Path.{_≡_};
 ghost use mathlib.Core.List.{List, [], _∷_};
 ghost use Prim.Native.Nat.{_≤_, _<_, _+_, _-_, _*_};
 ghost use lib.ListN.{length};
-ghost use Rattle.numeric.specs.Arith.{𝟏};
-ghost use Rattle.numeric.specs.Numeric.{maxF};
 ghost use Rattle.record.specs.Record.{size, peakAt};
 ghost use Rattle.record.specs.declared.ImPeak1D.{ImPeak1D as PeakT};
 ghost use Rattle.matching.specs.Matching.{soundStitch, samples, overlap, jaccardF, enoughCommon, atMost, groupOf, isSame};
@@ -61,13 +59,6 @@ pub fn overlap(lo_a: u32, hi_a: u32, lo_b: u32, hi_b: u32) -> u32
     )
 }
 
-// The higher of u and 1, and 1 for a NaN. With 1 known this is one instruction; `numeric::max` of any two floats is seven.
-fn at_least_one(u: f32) -> f32
-    ensures { λ r. ⌜ r ≡ maxF u 𝟏 ⌝ }
-{
-    if 1.0 <= u { u } else { 1.0 }
-}
-
 // Their share of all samples of the two.
 pub fn jaccard(lo_a: u32, hi_a: u32, lo_b: u32, hi_b: u32) -> f32
     ensures { λ r. ⌜ r ≡ jaccardF «lo_a» «hi_a» «lo_b» «hi_b» ⌝ }
@@ -78,7 +69,7 @@ pub fn jaccard(lo_a: u32, hi_a: u32, lo_b: u32, hi_b: u32) -> f32
     }
     let a = numeric::of_u32(samples(lo_a, hi_a));
     let b = numeric::of_u32(samples(lo_b, hi_b));
-    common / at_least_one(a + b - common)
+    common / numeric::at_least_one(a + b - common)
 }
 
 // Whether two intervals have at least `least` samples in common, and at least the share, if that is above 0.

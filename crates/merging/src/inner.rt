@@ -82,7 +82,7 @@ fn least_id(a: PeakId, b: PeakId) -> PeakId
 fn weight_of(p: ImPeak1D) -> f32
     ensures { λ r. ⌜ r ≡ weight p ⌝ }
 {
-    numeric::max(p.area_raw, 1.0)
+    numeric::at_least_one(p.area_raw)
 }
 
 fn is_of_group(g: u32, p: ImPeak1D) -> bool

@@ -12,7 +12,7 @@ use lib.Dec.{ltb, leb, eqb}
 use lib.Ieee.{Float, nan, inf, fin, Format, prec, emax, low, up, down, below, level, lt, le, eq, isNan, sub, sum, round, units, odd}
 use lib.Ieee.Fits.{down-pos}
 use lib.Ieee.Positive.{num, den, den-pos}
-use Rattle.numeric.specs.Numeric.{absF}
+use Rattle.numeric.specs.Numeric.{absF, maxF}
 use Rattle.refusal.proofs.Bools.{clash}
 use Rattle.numeric.proofs.Laws.{and-true}
 
@@ -250,6 +250,11 @@ le-no-nan a b h = ⊎-elim (lt-no-nan a b) (eq-no-nan a b) (le-cases a b h)
 -- ---- one way excludes the other
 pub le-not-lt : (a b : Float) → le b a ≡ true → lt a b ≡ false
 le-not-lt a b h = let n = le-no-nan b a h in let t = three a b b (n .1) (n .0) (n .0) in false-lt (t .xy) (le-true (t .yx) h)
+
+-- the higher of two, where the first is
+pub max-above : (a b : Float) → le b a ≡ true → maxF a b ≡ a
+unfolding maxF
+max-above a b h = rw (le-no-nan b a h .1, le-not-lt a b h)
 
 pub lt-not-le : (a b : Float) → lt a b ≡ true → le b a ≡ false
 lt-not-le a b h = let n = lt-no-nan a b h in let t = three a b b (n .0) (n .1) (n .1) in false-le (t .yx) (lt-true (t .xy) h)

@@ -3,12 +3,12 @@ use borrow.Author.Needs.{needs}
 use Rattle.merging.proofs.inner.weight_of.Statement.{statement}
 use Rattle.merging.proofs.inner.weight_of.Tie as tie
 
-max-requires : tie.Need-max-requires
-max-requires c κs = search needs
+at-least-one-requires : tie.Need-at-least-one-requires
+at-least-one-requires c κs = search needs
 
 returns : tie.Need-returns
 unfolding weight
-returns c = c .max .ensures
+returns c = c .at-least-one .ensures
 
 pub weight-of-spec : {M : Type 1} → statement M
-weight-of-spec = tie.close (tie.spec max-requires returns)
+weight-of-spec = tie.close (tie.spec at-least-one-requires returns)

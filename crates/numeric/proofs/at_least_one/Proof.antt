@@ -1,12 +1,11 @@
 use mathlib.Core.Path.{_≡_, refl, sym}
 use mathlib.Core.Bool.{Bool, true, false, cond}
 use lib.Ieee.{Float, lt, le, isNan, ofBits}
 use Rattle.numeric.specs.Arith.{𝟏}
 use Rattle.numeric.specs.Numeric.{maxF}
-use Rattle.numeric.proofs.Order.{not-le}
-use Rattle.matching.proofs.Shares.{max-above}
-use Rattle.matching.proofs.inner.at_least_one.Statement.{statement}
-use Rattle.matching.proofs.inner.at_least_one.Tie as tie
+use Rattle.numeric.proofs.Order.{not-le, max-above}
+use Rattle.numeric.proofs.at_least_one.Statement.{statement}
+use Rattle.numeric.proofs.at_least_one.Tie as tie
 
 one-is-number : isNan 𝟏 ≡ false
 unfolding isNan ofBits
@@ -21,10 +20,10 @@ low u h = go (isNan u) refl
     go false e = rw (not-le 𝟏 u one-is-number e h)
 
 returns : tie.Need-returns
-returns c = sym (max-above (c .before .args .u) 𝟏 (c .if1 .taken))
+returns c = sym (max-above (c .before .args .x) 𝟏 (c .if1 .taken))
 
 returns-2 : tie.Need-returns-2
-returns-2 c = low (c .before .args .u) (c .if1 .left)
+returns-2 c = low (c .before .args .x) (c .if1 .left)
 
 pub at-least-one-spec : {M : Type 1} → statement M
 at-least-one-spec = tie.close (tie.spec returns returns-2)
