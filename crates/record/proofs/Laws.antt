@@ -1,13 +1,15 @@
 -- Laws of records in a buffer.
 use mathlib.Core.Path.{_≡_, _∙_, ap}
+use mathlib.Core.Bool.{false, and-false}
 use mathlib.Core.List.{List, [], _++_, append-nil}
-use Prim.Native.Nat.{ℕ, _≤_, _+_, _-_}
-use native.Mathlib.Nat.{zero-add}
+use mathlib.Core.Logic.{inl, inr}
+use Prim.Native.Nat.{ℕ, zero, suc, _≤_, _<_, _+_, _-_}
+use native.Mathlib.Nat.{zero-add, eq-or-lt-of-le}
 use native.Mathlib.Omega.{arith}
 use lib.ListN.{length, drop, take, length-drop, drop-of-length-le}
 use lib.Seq.{getD-take, getD-drop, take-all, drop-drop, sets, sets-eq, take-append-seam, drop-append-add}
 use borrow.Rule.Slice.PartMut.{putMid}
-use Rattle.record.specs.Record.{size, peakFrom}
+use Rattle.record.specs.Record.{size, peakFrom, peakAt, sound, allSound}
 use Rattle.record.proofs.RoundTrip.{own-words}
 
 -- r words R, written through the part `&mut out[a..]`
@@ -31,3 +33,13 @@ put-behind ws R d last r h e =
 pub part-peak : (list : List ℕ) (a : ℕ) → a + size ≤ length list → peakFrom (take (length list - a) (drop a list)) 0 ≡ peakFrom list a
 part-peak list a h = own-words (take (length list - a) (drop a list)) list 0 a (λ j b.
     rw zero-add (getD-take (length list - a) (drop a list) j 0 (omega arith) ∙ getD-drop a list j 0))
+
+-- one peak that is not sound
+pub one-not-sound : (l : List ℕ) (k n : ℕ) → k < n → sound (peakAt l k) ≡ false → allSound l n ≡ false
+unfolding allSound
+one-not-sound l k zero h e = absurd (omega arith)
+one-not-sound l k (suc n) h e =
+    let m : k ≤ n = omega arith in elim (eq-or-lt-of-le m) [
+      | inl i ↦ rw (← i, e) (and-false (allSound l k))
+      | inr i ↦ rw (one-not-sound l k n i e)
+    ]

@@ -125,62 +125,81 @@ pub fn put_peak(out: &mut [u32], k: usize, p: ImPeak1D)
     put_words(&mut out[at..], p);
 }
 
-// What number 9 asks of the fields.
-fn sound_tof(p: ImPeak1D) -> bool
-    ensures { λ r. ⌜ r ≡ soundTof p ⌝ }
+// What number 9 asks of the fields, by the words of the record at the front of a list: a float from 0 to a limit has a word up
+// to the limit's, every other float a higher one, and floats from 0 on compare as their words.
+fn sound_tof(w: &[u32]) -> bool
+    requires { ⌜ size ≤ length (now w) ⌝ }
+    ensures { λ r. ⌜ r ≡ soundTof (peakFrom (now (w .entry)) 0) ⌝ }
 {
-    (p.tof_row <= limits::LAST_ROW)
-        & (p.tof_center <= limits::MAX_TOF_BOUND)
-        & (p.tof_lo <= p.tof_hi)
-        & (p.tof_hi <= limits::MAX_TOF_BOUND)
+    (w[ImPeak1D::TOF_ROW] <= limits::LAST_ROW)
+        & (w[ImPeak1D::TOF_CENTER] <= limits::MAX_TOF_BOUND)
+        & (w[ImPeak1D::TOF_LO] <= w[ImPeak1D::TOF_HI])
+        & (w[ImPeak1D::TOF_HI] <= limits::MAX_TOF_BOUND)
 }
 
-fn sound_frames(p: ImPeak1D) -> bool
-    ensures { λ r. ⌜ r ≡ soundFrames p ⌝ }
+fn sound_frames(w: &[u32]) -> bool
+    requires { ⌜ size ≤ length (now w) ⌝ }
+    ensures { λ r. ⌜ r ≡ soundFrames (peakFrom (now (w .entry)) 0) ⌝ }
 {
-    (p.rt_lo <= p.rt_hi) & (p.rt_hi <= limits::LAST_FRAME) & (p.frame_id_lo <= p.frame_id_hi)
+    (w[ImPeak1D::RT_LO] <= w[ImPeak1D::RT_HI])
+        & (w[ImPeak1D::RT_HI] <= limits::LAST_FRAME)
+        & (w[ImPeak1D::FRAME_ID_LO] <= w[ImPeak1D::FRAME_ID_HI])
 }
 
-fn sound_options(p: ImPeak1D) -> bool
-    ensures { λ r. ⌜ r ≡ soundOptions p ⌝ }
+fn sound_options(w: &[u32]) -> bool
+    requires { ⌜ size ≤ length (now w) ⌝ }
+    ensures { λ r. ⌜ r ≡ soundOptions (peakFrom (now (w .entry)) 0) ⌝ }
 {
-    let sigma = p.flags / ImPeak1D::HAS_SIGMA % 2 == 1;
-    let mobility = p.flags / ImPeak1D::HAS_MOBILITY % 2 == 1;
-    (p.flags <= 7)
-        & (!sigma | numeric::in_range(p.scan_sigma, limits::MAX_MOBILITY))
-        & (!mobility | numeric::in_range(p.mobility, limits::MAX_MOBILITY))
+    let flags = w[ImPeak1D::FLAGS];
+    let sigma = flags / ImPeak1D::HAS_SIGMA % 2 == 1;
+    let mobility = flags / ImPeak1D::HAS_MOBILITY % 2 == 1;
+    (flags <= 7)
+        & (!sigma | (w[ImPeak1D::SCAN_SIGMA] <= limits::MAX_MOBILITY))
+        & (!mobility | (w[ImPeak1D::MOBILITY] <= limits::MAX_MOBILITY))
 }
 
-fn sound_scans(p: ImPeak1D) -> bool
-    ensures { λ r. ⌜ r ≡ soundScans p ⌝ }
+fn sound_scans(w: &[u32]) -> bool
+    requires { ⌜ size ≤ length (now w) ⌝ }
+    ensures { λ r. ⌜ r ≡ soundScans (peakFrom (now (w .entry)) 0) ⌝ }
 {
-    (p.scan <= limits::LAST_SAMPLE)
-        & (p.left <= p.right)
-        & (p.right <= limits::LAST_SAMPLE)
-        & (p.scan_abs <= limits::MAX_SCAN)
-        & (p.left_abs <= p.right_abs)
-        & (p.right_abs <= limits::MAX_SCAN)
+    (w[ImPeak1D::SCAN] <= limits::LAST_SAMPLE)
+        & (w[ImPeak1D::LEFT] <= w[ImPeak1D::RIGHT])
+        & (w[ImPeak1D::RIGHT] <= limits::LAST_SAMPLE)
+        & (w[ImPeak1D::SCAN_ABS] <= limits::MAX_SCAN)
+        & (w[ImPeak1D::LEFT_ABS] <= w[ImPeak1D::RIGHT_ABS])
+        & (w[ImPeak1D::RIGHT_ABS] <= limits::MAX_SCAN)
 }
 
-fn sound_shape(p: ImPeak1D) -> bool
-    ensures { λ r. ⌜ r ≡ soundShape p ⌝ }
+fn sound_shape(w: &[u32]) -> bool
+    requires { ⌜ size ≤ length (now w) ⌝ }
+    ensures { λ r. ⌜ r ≡ soundShape (peakFrom (now (w .entry)) 0) ⌝ }
 {
-    numeric::in_range(p.apex_smoothed, limits::MAX_HEIGHT)
-        & numeric::in_range(p.apex_raw, limits::MAX_HEIGHT)
-        & numeric::in_range(p.prominence, limits::MAX_HEIGHT)
-        & numeric::in_range(p.left_x, limits::MAX_PLACE)
-        & numeric::in_range(p.right_x, limits::MAX_PLACE)
-        & (p.left_x <= p.right_x)
-        & (p.width_scans <= limits::MAX_WIDTH)
-        & numeric::in_range(p.area_raw, limits::MAX_AREA)
-        & (numeric::word_of(p.subscan) % 0x8000_0000 <= limits::MAX_OFFSET)
+    (w[ImPeak1D::APEX_SMOOTHED] <= limits::MAX_HEIGHT)
+        & (w[ImPeak1D::APEX_RAW] <= limits::MAX_HEIGHT)
+        & (w[ImPeak1D::PROMINENCE] <= limits::MAX_HEIGHT)
+        & (w[ImPeak1D::RIGHT_X] <= limits::MAX_PLACE)
+        & (w[ImPeak1D::LEFT_X] <= w[ImPeak1D::RIGHT_X])
+        & (w[ImPeak1D::WIDTH_SCANS] <= limits::MAX_WIDTH)
+        & (w[ImPeak1D::AREA_RAW] <= limits::MAX_AREA)
+        & (w[ImPeak1D::SUBSCAN] % 0x8000_0000 <= limits::MAX_OFFSET)
 }
 
-// Whether number 9 does not apply to a peak: every field in range, and no low bound above its high one.
+// Whether number 9 does not apply to the record at the front of a list: every field in range, and no low bound above its high
+// one.
+fn sound_words(w: &[u32]) -> bool
+    requires { ⌜ size ≤ length (now w) ⌝ }
+    ensures { λ r. ⌜ r ≡ sound (peakFrom (now (w .entry)) 0) ⌝ }
+{
+    sound_tof(w) & sound_frames(w) & sound_options(w) & sound_scans(w) & sound_shape(w)
+}
+
+// Whether it does not apply to a peak.
 pub fn is_sound(p: ImPeak1D) -> bool
     ensures { λ r. ⌜ r ≡ sound p ⌝ }
 {
-    sound_tof(p) & sound_frames(p) & sound_options(p) & sound_scans(p) & sound_shape(p)
+    let mut words = [0u32; ImPeak1D::WORDS];
+    put_words(&mut words, p);
+    sound_words(&words)
 }
 
 // Whether it applies to none of the first n peaks of a list.
@@ -188,9 +207,11 @@ pub fn all_sound(list: &[u32], n: usize) -> bool
     requires { ⌜ n * size ≤ length (now list) ⌝ }
     ensures { λ r. ⌜ r ≡ allSound (now (list .entry)) n ⌝ }
 {
-    let mut all = true;
     for k in 0..n {
-        all = all & is_sound(peak_at(list, k));
+        let at = k * ImPeak1D::WORDS;
+        if !sound_words(&list[at..]) {
+            return false;
+        }
     }
-    all
+    true
 }

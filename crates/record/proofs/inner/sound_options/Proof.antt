@@ -1,17 +1,26 @@
-use Rattle.record.specs.Record.{soundOptions}
+use Rattle.record.specs.Record.{peakFrom, soundOptions}
+use Rattle.limits.specs.Limits.{maxMobility}
+use Rattle.record.proofs.Words.{range-word}
+use native.Mathlib.Omega.{arith}
 use borrow.Author.Needs.{needs}
 use Rattle.record.proofs.inner.sound_options.Statement.{statement}
 use Rattle.record.proofs.inner.sound_options.Tie as tie
 
-in-range-requires : tie.Need-in-range-requires
-in-range-requires c κs = search needs
+shared-slice-read-flags : tie.Need-shared-slice-read-flags
+shared-slice-read-flags c = search needs
 
-in-range-requires-2 : tie.Need-in-range-requires-2
-in-range-requires-2 c κs = search needs
+shared-slice-read-result : tie.Need-shared-slice-read-result
+shared-slice-read-result c = search needs
+
+shared-slice-read-result-2 : tie.Need-shared-slice-read-result-2
+shared-slice-read-result-2 c = search needs
 
 returns : tie.Need-returns
-unfolding soundOptions
-returns c = rw (c .before .in-range .ensures, c .in-range2 .ensures)
+unfolding soundOptions peakFrom
+returns c = let k = c .shared-slice-known3 .given in
+    rw (range-word maxMobility _ (omega arith) (k 16 .fits), range-word maxMobility _ (omega arith) (k 17 .fits))
 
 pub sound-options-spec : {M : Type 1} → statement M
-sound-options-spec = tie.close (tie.spec in-range-requires in-range-requires-2 returns)
+sound-options-spec =
+    tie.close
+    (tie.spec shared-slice-read-flags shared-slice-read-result shared-slice-read-result-2 returns)

@@ -1,47 +1,54 @@
-use Rattle.record.specs.Record.{soundShape}
+use Rattle.record.specs.Record.{peakFrom, soundShape}
+use Rattle.limits.specs.Limits.{maxHeight, maxArea}
+use Rattle.record.proofs.Words.{range-word, offset-word, places-words}
+use native.Mathlib.Omega.{arith}
 use borrow.Author.Needs.{needs}
 use Rattle.record.proofs.inner.sound_shape.Statement.{statement}
 use Rattle.record.proofs.inner.sound_shape.Tie as tie
 
-in-range-requires : tie.Need-in-range-requires
-in-range-requires c κs = search needs
+shared-slice-read-result : tie.Need-shared-slice-read-result
+shared-slice-read-result c = search needs
 
-in-range-requires-2 : tie.Need-in-range-requires-2
-in-range-requires-2 c κs = search needs
+shared-slice-read-result-2 : tie.Need-shared-slice-read-result-2
+shared-slice-read-result-2 c = search needs
 
-in-range-requires-3 : tie.Need-in-range-requires-3
-in-range-requires-3 c κs = search needs
+shared-slice-read-result-3 : tie.Need-shared-slice-read-result-3
+shared-slice-read-result-3 c = search needs
 
-in-range-requires-4 : tie.Need-in-range-requires-4
-in-range-requires-4 c κs = search needs
+shared-slice-read-result-4 : tie.Need-shared-slice-read-result-4
+shared-slice-read-result-4 c = search needs
 
-in-range-requires-5 : tie.Need-in-range-requires-5
-in-range-requires-5 c κs = search needs
+shared-slice-read-result-5 : tie.Need-shared-slice-read-result-5
+shared-slice-read-result-5 c = search needs
 
-in-range-requires-6 : tie.Need-in-range-requires-6
-in-range-requires-6 c κs = search needs
+shared-slice-read-result-6 : tie.Need-shared-slice-read-result-6
+shared-slice-read-result-6 c = search needs
 
-word-of-requires : tie.Need-word-of-requires
-word-of-requires c κs = search needs
+shared-slice-read-result-7 : tie.Need-shared-slice-read-result-7
+shared-slice-read-result-7 c = search needs
+
+shared-slice-read-result-8 : tie.Need-shared-slice-read-result-8
+shared-slice-read-result-8 c = search needs
+
+shared-slice-read-result-9 : tie.Need-shared-slice-read-result-9
+shared-slice-read-result-9 c = search needs
 
 returns : tie.Need-returns
-unfolding soundShape
-returns c = let r6 = c .before in
-    let r5 = r6 .before .before .before in
-    let r4 = r5 .before in
-    let r3 = r4 .before in
-    let r2 = r3 .before in
-    rw (r2 .before .in-range .ensures, r2 .in-range2 .ensures, r3 .in-range3 .ensures, r4 .in-range4 .ensures, r5 .in-range5 .ensures, r6 .in-range6 .ensures, c .word-of .ensures)
+unfolding soundShape peakFrom
+returns c = let k = c .shared-slice-known9 .given in
+    rw (range-word maxHeight _ (omega arith) (k 18 .fits), range-word maxHeight _ (omega arith) (k 19 .fits), range-word maxHeight _ (omega arith) (k 20 .fits), places-words _ _ _ (k 21 .fits) (k 22 .fits), range-word maxArea _ (omega arith) (k 24 .fits), offset-word _ (k 25 .fits))
 
 pub sound-shape-spec : {M : Type 1} → statement M
 sound-shape-spec =
     tie.close
     (tie.spec
-    in-range-requires
-    in-range-requires-2
-    in-range-requires-3
-    in-range-requires-4
-    in-range-requires-5
-    in-range-requires-6
-    word-of-requires
+    shared-slice-read-result
+    shared-slice-read-result-2
+    shared-slice-read-result-3
+    shared-slice-read-result-4
+    shared-slice-read-result-5
+    shared-slice-read-result-6
+    shared-slice-read-result-7
+    shared-slice-read-result-8
+    shared-slice-read-result-9
     returns)
