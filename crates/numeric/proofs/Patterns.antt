@@ -1,12 +1,12 @@
 -- Floats with a clear sign order like their bit patterns, infinity included.
 use mathlib.Core.Path.{_≡_, refl, sym, ap, _∙_, subst}
-use mathlib.Core.Bool.{Bool, true, false, _&&_, _||_}
+use mathlib.Core.Bool.{Bool, true, false, not, _&&_, _||_}
 use mathlib.Core.List.{List, [], _∷_}
 use mathlib.Core.Logic.{inl, inr}
-use Prim.Native.Nat.{ℕ, zero, suc, _+_, _-_, _*_, _/_, _^_, _≤_, _<_}
+use Prim.Native.Nat.{ℕ, zero, suc, _+_, _-_, _*_, _/_, _%_, _^_, _≤_, _<_}
 use native.Mathlib.Omega.{arith}
 use native.Mathlib.Nat.{le-trans, le-of-eq, lt-of-le-of-lt, eq-or-lt-of-le, zero-add, mul-right-comm, mul-le-mul-right, suc-mul, le-div-iff-mul-le, pow-succ'}
-use borrow.Author.Tests.{ltb-true, leb-true, lt-ltb, le-ltb, le-leb, lt-leb, eqb-true}
+use borrow.Author.Tests.{ltb-true, ltb-false, leb-true, lt-ltb, le-ltb, le-leb, lt-leb, eqb-true}
 use lib.Dec.{T, ltb, leb, eqb}
 use lib.IntN.{ℤ}
 use lib.ListN.{length, take, drop}
@@ -16,11 +16,12 @@ use lib.Ieee.Digits.{size-lt, size-le, size-reaches}
 use lib.Ieee.Fits.{kept-lt, down-pos}
 use lib.Ieee.Scale.{finite}
 use lib.Ieee.Nearest.{div-mono}
-use lib.Ieee.Bits.{ofBits-toBits}
+use lib.Ieee.Bits.{ofBits-toBits, toBits-ofBits, nanBits-is}
 use Rattle.numeric.specs.Arith.{at}
 use Rattle.numeric.specs.Numeric.{inRange, allInRange}
 use Rattle.numeric.specs.Plain.{Plain, AllFit, AllPlain, LeAsPatterns, LtAsPatterns}
 use Rattle.refusal.proofs.Bools.{clash, both}
+use Rattle.numeric.proofs.Laws.{no-nan as no-nan-word, is-nan}
 use Rattle.numeric.proofs.Order.{lt-le, lt-irrefl, not-le, not-lt}
 
 -- ---- the pattern of n units of the smallest value, in a format of p digits behind the leading one: it grows with n
@@ -187,3 +188,26 @@ unfolding allInRange
 all-drop limit zero y h = h
 all-drop limit (suc n) [] h = refl
 all-drop limit (suc n) (x ∷ xs) h = all-drop limit n xs (both (inRange limit x) h .1)
+
+-- ---- words and the floats that are read from them
+
+-- a word that is no NaN's is the word of its float
+pub word-back : (w : ℕ) → w < 2 ^ 32 → w % 0x8000_0000 ≤ 0x7f80_0000 → toBits binary32 (ofBits binary32 w) ≡ w
+word-back w h k = toBits-ofBits binary32 w h (subst (λ (b : Bool). T (not b)) (nanBits-is binary32 w) (no-nan-word w k))
+
+nan-word : toBits binary32 nan ≡ 0x7fc0_0000
+unfolding toBits
+nan-word = refl
+
+-- a test that no NaN's word passes is the same of a word and of the word of its float
+pub same-test : (t : ℕ → Bool) (w : ℕ) → w < 2 ^ 32 → ((v : ℕ) → 0x7f80_0000 < v % 0x8000_0000 → t v ≡ false) → t (toBits binary32 (ofBits binary32 w)) ≡ t w
+same-test t w h n = go (ltb 0x7f80_0000 (w % 0x8000_0000)) refl
+  where
+    go : (b : Bool) → ltb 0x7f80_0000 (w % 0x8000_0000) ≡ b → t (toBits binary32 (ofBits binary32 w)) ≡ t w
+    go true e = let k = ltb-true _ _ e in rw (is-nan w k, nan-word) (n 0x7fc0_0000 (omega arith) ∙ sym (n w k))
+    go false e = rw (word-back w h (ltb-false _ _ e))
+
+-- a float in a range
+pub range-word : (limit w : ℕ) → w < 2 ^ 32 → limit < 0x7f80_0000 → inRange limit (ofBits binary32 w) ≡ leb w limit
+unfolding inRange
+range-word limit w h g = same-test (λ v. leb v limit) w h (λ v k. lt-leb v limit (omega arith))

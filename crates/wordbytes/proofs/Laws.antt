@@ -1,20 +1,19 @@
 -- Laws of buffers that are filled with words, and of tests that read words one by one.
-use mathlib.Core.Path.{_≡_, refl, sym, ap, _∙_, subst}
+use mathlib.Core.Path.{_≡_, refl, sym, ap, _∙_}
 use mathlib.Core.Bool.{Bool, true, false, not, _&&_}
 use mathlib.Core.List.{List, [], _∷_, _++_, map, append-assoc, append-nil}
-use Prim.Native.Nat.{ℕ, suc, _+_, _*_, _/_, _%_, _^_, _-_, _≤_, _<_}
+use Prim.Native.Nat.{ℕ, suc, _+_, _*_, _/_, _^_, _-_, _≤_, _<_}
 use native.Mathlib.Numerals.{add-one}
 use native.Mathlib.Omega.{arith}
-use borrow.Author.Tests.{lt-leb, le-leb, ltb-true, ltb-false, leb-true}
+use borrow.Author.Tests.{le-leb, ltb-true, leb-true}
 use lib.Dec.{T, leb, ltb}
 use lib.ListN.{length, getD, take, drop, set}
 use lib.Seq.{take-all, take-suc, take-at, drop-at, drop-cons, drop-drop, length-take-le, set-at, sets-eq, drop-length}
-use lib.Ieee.{Float, nan, binary32, ofBits, toBits, nanBits}
-use lib.Ieee.Bits.{toBits-ofBits, nanBits-is}
+use lib.Ieee.{Float, binary32, ofBits, nanBits}
 use Rattle.numeric.specs.Arith.{at}
-use Rattle.numeric.proofs.Patterns.{range-at}
+use Rattle.numeric.proofs.Patterns.{range-at, range-word}
 use Rattle.numeric.specs.Numeric.{inRange, allInRange}
-use Rattle.numeric.proofs.Laws.{no-nan, is-nan, and-true, and-assoc}
+use Rattle.numeric.proofs.Laws.{no-nan, and-true, and-assoc}
 use Rattle.refusal.proofs.Bools.{both, and-false}
 use Rattle.params.specs.Params.{allUpTo, rising, risingFrom}
 use Rattle.wordbytes.specs.Bytes.{floatsOf, bytesOfWord, bytesOf, withWord}
@@ -61,22 +60,6 @@ word-behind ws d out next i h e o =
     rw (s, m, bytes-append, append-nil) (behind (bytesOf (take i ws)) (bytesOfWord w) d out next (i * 4) 4 l e o)
 
 -- ---- readings as words
-nan-high : (limit : ℕ) → limit < 0x7f80_0000 → limit < toBits binary32 nan
-unfolding toBits
-nan-high limit h = omega arith
-
-pub range-word : (limit w : ℕ) → w < 2 ^ 32 → limit < 0x7f80_0000 → inRange limit (ofBits binary32 w) ≡ leb w limit
-unfolding inRange
-range-word limit w h g = go (ltb 0x7f80_0000 (w % 0x8000_0000)) refl
-  where
-    go : (b : Bool) → ltb 0x7f80_0000 (w % 0x8000_0000) ≡ b → leb (toBits binary32 (ofBits binary32 w)) limit ≡ leb w limit
-    go true e =
-        let k : 0x7f80_0000 < w % 0x8000_0000 = ltb-true _ _ e in
-        rw (is-nan w k) (lt-leb _ limit (nan-high limit g) ∙ sym (lt-leb w limit (omega arith)))
-    go false e =
-        let k : w % 0x8000_0000 ≤ 0x7f80_0000 = ltb-false _ _ e in
-        rw (toBits-ofBits binary32 w h (subst (λ (b : Bool). T (not b)) (nanBits-is binary32 w) (no-nan w k)))
-
 -- a float of a list that is in range has no pattern of a NaN
 pub in-range-no-nan : (limit : ℕ) (l : List Float) (k w : ℕ) → limit < 0x7f80_0000 → allInRange limit l ≡ true → k < length l → w < 2 ^ 32 → at l k ≡ ofBits binary32 w
     → T (not (nanBits binary32 w))

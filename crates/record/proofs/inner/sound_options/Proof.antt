@@ -1,6 +1,6 @@
 use Rattle.record.specs.Record.{peakFrom, soundOptions}
 use Rattle.limits.specs.Limits.{maxMobility}
-use Rattle.record.proofs.Words.{range-word}
+use Rattle.numeric.proofs.Patterns.{range-word}
 use native.Mathlib.Omega.{arith}
 use borrow.Author.Needs.{needs}
 use Rattle.record.proofs.inner.sound_options.Statement.{statement}
@@ -18,7 +18,7 @@ shared-slice-read-result-2 c = search needs
 returns : tie.Need-returns
 unfolding soundOptions peakFrom
 returns c = let k = c .shared-slice-known3 .given in
-    rw (range-word maxMobility _ (omega arith) (k 16 .fits), range-word maxMobility _ (omega arith) (k 17 .fits))
+    rw (range-word maxMobility _ (k 16 .fits) (omega arith), range-word maxMobility _ (k 17 .fits) (omega arith))
 
 pub sound-options-spec : {M : Type 1} → statement M
 sound-options-spec =

@@ -1,6 +1,7 @@
 use Rattle.record.specs.Record.{peakFrom, soundShape}
 use Rattle.limits.specs.Limits.{maxHeight, maxArea}
-use Rattle.record.proofs.Words.{range-word, offset-word, places-words}
+use Rattle.numeric.proofs.Patterns.{range-word}
+use Rattle.record.proofs.Words.{offset-word, places-words}
 use native.Mathlib.Omega.{arith}
 use borrow.Author.Needs.{needs}
 use Rattle.record.proofs.inner.sound_shape.Statement.{statement}
@@ -36,7 +37,7 @@ shared-slice-read-result-9 c = search needs
 returns : tie.Need-returns
 unfolding soundShape peakFrom
 returns c = let k = c .shared-slice-known9 .given in
-    rw (range-word maxHeight _ (omega arith) (k 18 .fits), range-word maxHeight _ (omega arith) (k 19 .fits), range-word maxHeight _ (omega arith) (k 20 .fits), places-words _ _ _ (k 21 .fits) (k 22 .fits), range-word maxArea _ (omega arith) (k 24 .fits), offset-word _ (k 25 .fits))
+    rw (range-word maxHeight _ (k 18 .fits) (omega arith), range-word maxHeight _ (k 19 .fits) (omega arith), range-word maxHeight _ (k 20 .fits) (omega arith), places-words _ _ _ (k 21 .fits) (k 22 .fits), range-word maxArea _ (k 24 .fits) (omega arith), offset-word _ (k 25 .fits))
 
 pub sound-shape-spec : {M : Type 1} → statement M
 sound-shape-spec =
