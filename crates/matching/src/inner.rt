@@ -127,6 +127,9 @@ fn is_same(x: Group, y: Group) -> bool
 fn same_group(p: StitchParams, a: ImPeak1D, b: ImPeak1D) -> bool
     ensures { λ r. ⌜ r ≡ sameGroup p a b ⌝ }
 {
+    if (a.flags == b.flags) & (a.window_group == b.window_group) {
+        return true;
+    }
     p.allow_cross_groups | is_same(group_of(a), group_of(b))
 }
 
