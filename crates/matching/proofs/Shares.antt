@@ -1,10 +1,10 @@
 -- An interval has a share of 1 in common with itself, exactly: in floats, too, x + x - x is x, and x / x is 1.
 use mathlib.Core.Path.{_≡_, refl, sym, ap, _∙_, subst}
-use mathlib.Core.Bool.{true, false, cond, _&&_}
+use mathlib.Core.Bool.{Bool, true, false, cond, _&&_}
 use Prim.Native.Nat.{ℕ, _+_, _-_, _*_, _^_, _≤_, _<_, min, max}
 use native.Mathlib.Omega.{arith}
 use native.Mathlib.Nat.{le-refl, le-of-eq, le-trans, lt-of-lt-of-le, lt-of-le-of-lt, mul-comm, mul-one, mul-le-mul-right}
-use borrow.Author.Tests.{le-leb, lt-leb, leb-true, eqb-true}
+use borrow.Author.Tests.{le-leb, lt-leb, leb-true, leb-false, eqb-true}
 use lib.Dec.{leb, eqb, lit<, lit≤}
 use lib.Ieee.{Float, nan, inf, fin, binary32, lt, le, round, ofInt, ofBits, toBits}
 use lib.Ieee.Bits.{ofBits-toBits}
@@ -125,9 +125,19 @@ unfolding enoughCommon
 enough-one least share lo hi h k =
     rw (jaccard-same lo hi h, le-not-lt 𝟏 share k, and-false (lt 𝟎 share), common-same lo hi) (sym (and-true (leb least (samples lo hi))))
 
+-- so many samples, if they are not fewer than one more than the ends are apart
+one-less : (least lo hi : ℕ) → lo ≤ hi → least ≤ 4294967295 → leb (least - 1) (hi - lo) ≡ leb least (samples lo hi)
+unfolding samples
+one-less least lo hi h f = go (leb least (samples lo hi)) refl
+  where
+    go : (b : Bool) → leb least (samples lo hi) ≡ b → leb (least - 1) (hi - lo) ≡ b
+    go true e = let k = leb-true least (samples lo hi) e in le-leb (least - 1) (hi - lo) (omega arith)
+    go false e = let k = leb-false least (samples lo hi) e in lt-leb (least - 1) (hi - lo) (omega arith)
+
 -- two intervals that are the same
-pub enough-same : (least : ℕ) (share : Float) (loA hiA loB hiB : ℕ) → (eqb loA loB && eqb hiA hiB && leb loA hiA && le share 𝟏) ≡ true
-    → leb least (samples loA hiA) ≡ enoughCommon least share loA hiA loB hiB
-enough-same least share loA hiA loB hiB h =
+pub enough-same : (least : ℕ) (share : Float) (loA hiA loB hiB : ℕ) → least ≤ 4294967295 → (eqb loA loB && eqb hiA hiB && leb loA hiA && le share 𝟏) ≡ true
+    → (loA ≤ hiA) × (leb (least - 1) (hiA - loA) ≡ enoughCommon least share loA hiA loB hiB)
+enough-same least share loA hiA loB hiB f h =
     let same = all4 (eqb loA loB) h in
-    rw (← eqb-true loA loB (same .0), ← eqb-true hiA hiB (same .1)) (enough-one least share loA hiA (leb-true loA hiA (same .2)) (same .3))
+    let rise = leb-true loA hiA (same .2) in
+    (rise, one-less least loA hiA rise f ∙ rw (← eqb-true loA loB (same .0), ← eqb-true hiA hiB (same .1)) (enough-one least share loA hiA rise (same .3)))

@@ -85,13 +85,13 @@ fn enough_shared(least: u32, share: f32, lo_a: u32, hi_a: u32, lo_b: u32, hi_b: 
     false
 }
 
-// The same, with a short way for two intervals that are one: their share is 1.
+// The same, with a short way for two intervals that are one: their share is 1, and one sample more than their ends are apart.
 fn enough_common(least: u32, share: f32, lo_a: u32, hi_a: u32, lo_b: u32, hi_b: u32) -> bool
     ensures { λ r. ⌜ r ≡ enoughCommon least share «lo_a» «hi_a» «lo_b» «hi_b» ⌝ }
 {
     let same = (lo_a == lo_b) & (hi_a == hi_b) & (lo_a <= hi_a) & (share <= 1.0);
     if same {
-        return least <= samples(lo_a, hi_a);
+        return above(least, 1) <= hi_a - lo_a;
     }
     enough_shared(least, share, lo_a, hi_a, lo_b, hi_b)
 }
