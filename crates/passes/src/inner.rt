@@ -219,6 +219,7 @@ pub fn stitch_peaks(
     ensures keys { λ _. ⌜ drop (n * size) (now (keys .exit)) ≡ drop (n * size) (now (keys .entry)) ⌝ }
     ensures merged { λ _. ⌜ drop (n * size) (now (merged .exit)) ≡ drop (n * size) (now (merged .entry)) ⌝ }
 {
+    // a key of the first pass has eight words; by the last, the identity, the places are in order
     let m = pass_from(
         list,
         n,
