@@ -55,18 +55,6 @@ fn put_order(ids: &[u32], n: usize, order: &mut [u32], spare: &mut [u32])
     ordering::inner::order_rows(ids, 1, &mut order[..n], spare);
 }
 
-// Fills `to` with the first words of `from`.
-fn copy(from: &[u32], to: &mut [u32])
-    requires { ⌜ length (now to) ≤ length (now from) ⌝ }
-    ensures { λ _. ⌜ now (to .exit) ≡ take (length (now (to .entry))) (now (from .entry)) ⌝ }
-{
-    let mut i = 0usize;
-    while i < to.len() {
-        to[i] = from[i];
-        i += 1;
-    }
-}
-
 // Whether the first n identities are distinct, with room to sort them. If so, `to` is filled with the first places in their order;
 // else it stays as it is.
 fn by_order(
@@ -84,7 +72,7 @@ fn by_order(
     keys::inner::put_keys(list, n, KeyRule::Identity, ids);
     put_order(ids, n, order, spare);
     if neighbours_differ(ids, &order[..n]) {
-        copy(order, to);
+        digits::inner::copy(order, to);
         return true;
     }
     false
