@@ -1,2 +1,3 @@
 -- The limits that the contracts cite.
 pub mod Limits
+pub mod Cases
