@@ -85,7 +85,7 @@ fn enough_shared(least: u32, share: f32, lo_a: u32, hi_a: u32, lo_b: u32, hi_b: 
     false
 }
 
-// The same, with a short way for two intervals that are one: their share is 1, and one sample more than their ends are apart.
+// The same, with a short way for two intervals that are one: their share is 1, and they have one sample more than their ends lie apart.
 fn enough_common(least: u32, share: f32, lo_a: u32, hi_a: u32, lo_b: u32, hi_b: u32) -> bool
     ensures { λ r. ⌜ r ≡ enoughCommon least share «lo_a» «hi_a» «lo_b» «hi_b» ⌝ }
 {
@@ -127,6 +127,7 @@ fn is_same(x: Group, y: Group) -> bool
 fn same_group(p: StitchParams, a: ImPeak1D, b: ImPeak1D) -> bool
     ensures { λ r. ⌜ r ≡ sameGroup p a b ⌝ }
 {
+    // the same words say the same group
     if (a.flags == b.flags) & (a.window_group == b.window_group) {
         return true;
     }
