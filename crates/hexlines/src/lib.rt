@@ -1,11 +1,13 @@
 // Lines of hexadecimal words, as the replay programs read them: a byte at a time, words parted by any other byte, a line
 // ended by a line feed. A line that starts with '#' has no words.
+#![tactic(auto)]
+
 ghost use Rattle.std.specs.Prelude.{◌≡◌, ◌<◌, ◌≤◌, [], ◌∷◌, ◌++◌, length, take, if◌then◌else◌, nat_lt};
 ghost use Rattle.hexlines.specs.Lines.{at_start, line_of, digit_of, closed_by, next_in, fed, counting};
 
 // What has been read of a line: its whole words, the word that is being read and how many digits it has, and whether the
 // line is passed over. After its last byte the line has ended.
-#[derive(Drop)]
+#[derive(Clone, Copy)]
 pub struct Reading {
     pub words: usize,
     pub value: u32,
@@ -129,7 +131,7 @@ pub fn feed(line: &mut [u32], s: Reading, b: u8) -> Reading
 }
 
 // How many lines with words there were, and how many of them differ from what they should say.
-#[derive(Drop)]
+#[derive(Clone, Copy)]
 pub struct Tally {
     pub lines: u64,
     pub differ: u64,
