@@ -1,4 +1,6 @@
 // The records of mobility peaks, as words of a lent list.
+#![tactic(auto)]
+
 pub mod inner;
 
 // Peak identities. They stand last in a record, and are read, written and compared only by the functions that name them.
@@ -6,7 +8,7 @@ pub use limits::PeakId;
 
 // A mobility peak. Three of its fields may be missing: the window group, the mobility and the scan sigma. A bit of `flags`
 // tells whether each is there, and the field of one that is missing is 0.
-#[derive(Drop)]
+#[derive(Clone, Copy)]
 pub struct ImPeak1D {
     pub tof_row: u32,
     pub tof_center: u32,
