@@ -1,5 +1,5 @@
 -- What is read where peaks have been written.
-use mathlib.Core.Path.{◌≡◌, refl, sym, ap, subst, ◌∙◌}
+use mathlib.Core.Path.{◌≡◌, refl, sym, ap, ◌∙◌}
 use mathlib.Core.Bool.{Bool, true, false}
 use mathlib.Core.List.Memᴰ
 use mathlib.Core.List.{List, [], ◌∷◌, ◌++◌, append_assoc, append-nil, Memᴰ}
@@ -10,9 +10,9 @@ use Prim.Native.Nat.{ℕ, zero, suc, ◌+◌, ◌*◌, ◌<◌, ◌≤◌}
 use native.Mathlib.Omega.{arith}
 use borrow.Author.Tests.{eqb-true, eqb-false}
 use lib.Dec.{eqb}
-use lib.ListN.{length, get_or, take, drop, length-append, get_or-append}
+use lib.ListN.{length, take, drop, length-append, get_or-append}
 use lib.Seq.{take_at, drop_at, drop-append-add, split_at, length-take-le, get_or-append_seam, ext_get_or}
-use Rattle.record.specs.Record.{size, words_of, peak_from, peak_at, with_peak}
+use Rattle.record.specs.Record.{size, words_of, peak_at, with_peak}
 use Rattle.record.proofs.RoundTrip.{read_fits, got-back}
 use Rattle.record.specs.declared.ImPeak1D.{ImPeak1D}
 use Rattle.peaklist.specs.PeakList.{no_peak, nth, peaks_of, list_words}
