@@ -6,14 +6,14 @@ ghost use Rattle.numeric.specs.Numeric.{max_f};
 ghost use Rattle.apex.specs.Apex.{is_candidate, left_of, right_of, up_to_higher, least, baseline, rise_of, none_below, Ground, left_foot, right_foot, part_way, left_crossing, right_crossing};
 
 // How far an apex rises above its baseline, and the height half of that above the baseline.
-#[derive(Drop)]
+#[derive(Clone, Copy)]
 pub struct Rise {
     pub prominence: f32,
     pub half: f32,
 }
 
 // A low beside an apex, and how many samples were walked over to find it.
-#[derive(Drop)]
+#[derive(Clone, Copy)]
 pub struct Low {
     pub height: f32,
     pub steps: usize,
