@@ -12,7 +12,7 @@ use Rattle.numeric.specs.Arith.{at, ◌⊖◌}
 use Rattle.numeric.specs.Numeric.{abs_f}
 use Rattle.numeric.specs.Plain.{word, Plain, AllPlain}
 use Rattle.numeric.proofs.Patterns.{le-bits, lt-bits}
-use Rattle.rank.specs.Rank.{counted, smaller, at_most, ranked, words, rank_f, smaller_f, at_most_f, distances, steps}
+use Rattle.rank.specs.Rank.{counted, smaller, at_most, ranked, words, rank_f, smaller_f, at_most_f}
 use Rattle.rank.specs.RankLaws.{ReadingAtRank, OneReading, OneOfReadings, DistancesPlain, StepsPlain}
 use Rattle.rank.proofs.Laws.{ranked-is}
 use Rattle.rank.proofs.Sorted.{ranked-at, at-rank-in}
