@@ -1,6 +1,6 @@
 -- Worked cases, by computation; they need not be read to know what is promised.
-use Rattle.std.specs.Prelude.{◌≡◌, refl, true, false, List, [], ◌∷◌, map, ℕ, Float}
-use Rattle.std.specs.Float.{nan, binary32}
+use Rattle.std.specs.Prelude.{◌≡◌, refl, true, false, List, [], ◌∷◌, map, Float}
+use Rattle.std.specs.Float.{binary32}
 use Rattle.std.specs.Float.Ieee.{of_bits, to_bits, of_int, neg, add, sub, mul, lt, le, to_unsigned}
 use Rattle.numeric.specs.Arith.{index_f, 𝟎, ½, 𝟏}
 use Rattle.rttime.specs.Time.{time_between, time_at, never_falls_from, never_falls}
