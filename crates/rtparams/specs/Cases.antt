@@ -1,10 +1,10 @@
 -- Worked cases, by computation; they need not be read to know what is promised.
-use Rattle.std.specs.Prelude.{◌≡◌, refl, Bool, true, false, ℕ, Float}
+use Rattle.std.specs.Prelude.{◌≡◌, refl, true, false}
 use Rattle.std.specs.Float.{binary32}
 use Rattle.std.specs.Float.Ieee.{of_bits, to_bits, of_int, mul, lt, is_nan}
 use Rattle.numeric.specs.Arith.{index_f, 𝟎, ½, 𝟏}
 use Rattle.numeric.specs.Numeric.{max_f, in_range}
-use Rattle.rtparams.specs.Modes.{effective_f, default_mode, sound_mode}
+use Rattle.rtparams.specs.Modes.{effective_f, sound_mode}
 use Rattle.rtparams.specs.Expand.{defaults, legacy_defaults, with_mode, sound_expand}
 use Rattle.rtparams.specs.declared.ThresholdMode.TheVariants.{Fixed, AdaptiveNoise}
 

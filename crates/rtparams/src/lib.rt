@@ -1,4 +1,6 @@
 // What expansion along the retention time is told: thresholds and parameters.
+#![tactic(auto)]
+
 pub mod inner;
 
 ghost use Rattle.std.specs.Prelude.{◌≡◌};
@@ -10,7 +12,7 @@ pub const MAX_FRACTION: u32 = 0x3f80_0000;
 
 // How the floor for heights and prominences of a retention trace is found: a value that is given, or a multiple of the
 // trace's noise.
-#[derive(Drop)]
+#[derive(Clone, Copy)]
 pub enum ThresholdMode {
     Fixed(f32),
     AdaptiveNoise(f32),
@@ -57,7 +59,7 @@ impl ThresholdMode {
 // gives the floor; `min_sep_sec` is the least separation of two apexes and `min_width_sec` the least width of one. A window of
 // fewer frames than `fallback_if_frames_lt` has one peak, that of the fallback, which takes its ends at the share
 // `fallback_frac_width` of the highest reading. Smoothing truncation is not passed: weights come from the caller.
-#[derive(Drop)]
+#[derive(Clone, Copy)]
 pub struct RtExpandParams {
     pub bin_pad: u32,
     pub smooth_sigma_sec: f32,
