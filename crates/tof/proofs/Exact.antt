@@ -37,7 +37,11 @@ reduced (fin t m e) num den n c p h v = (
 
 whole_sum : (x y : Float) (a b : ℕ) → HasValue x false a 1 → HasValue y false b 1 → a + b < 2 ^ 24 → HasValue (x ⊕ y) false (a + b) 1
 unfolding add sum
+whole_sum nan y a b v w h = elim v [ ]
+whole_sum (inf _) y a b v w h = elim v [ ]
 whole_sum (fin true m e) y a b v w h = absurd (mathlib.Core.Bool.true≢false v.0)
+whole_sum (fin false m e) nan a b v w h = elim w [ ]
+whole_sum (fin false m e) (inf _) a b v w h = elim w [ ]
 whole_sum (fin false m e) (fin true n d) a b v w h = absurd (mathlib.Core.Bool.true≢false w.0)
 whole_sum (fin false m e) (fin false n d) a b v w h =
     let k = down e * down d in
@@ -50,6 +54,8 @@ whole_sum (fin false m e) (fin false n d) a b v w h =
 
 whole-half : (x : Float) (a : ℕ) → HasValue x false a 1 → a < 2 ^ 24 → HasValue (½ ⊗ x) false a 2
 unfolding mul of_bits
+whole-half nan a v h = elim v [ ]
+whole-half (inf _) a v h = elim v [ ]
 whole-half (fin true m e) a v h = absurd (mathlib.Core.Bool.true≢false v.0)
 whole-half (fin false m e) a v h =
     let d = down e in

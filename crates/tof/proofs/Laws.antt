@@ -1,6 +1,6 @@
 -- Laws of the scale's steps.
 use mathlib.Core.Path.{◌≡◌, refl, sym, ap, ◌∙◌, subst}
-use mathlib.Core.Bool.{Bool, true, false, ◌&&◌, ◌||◌}
+use mathlib.Core.Bool.{true, false}
 use mathlib.Core.List.{List, [], ◌∷◌}
 use Prim.Native.Nat.{ℕ, zero, suc, ◌+◌, ◌*◌, ◌/◌, ◌≤◌, ◌<◌, min, max}
 use native.Mathlib.Nat.{div-lt_iff_lt-mul, mul-one, mul_right_comm, lt_of_mul-lt-mul_right}

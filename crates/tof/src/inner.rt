@@ -7,7 +7,7 @@ ghost use Rattle.tof.specs.Tof.{Sound, edge, in_scale, bin_of, window_bins, cent
 use super::TofScale;
 use params::RowPlace;
 
-#[derive(Drop)]
+#[derive(Clone, Copy)]
 pub struct Span {
     pub lo: u32,
     pub hi: u32,

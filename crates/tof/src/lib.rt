@@ -1,11 +1,13 @@
 // The TOF scale of a run.
+#![tactic(auto)]
+
 pub mod inner;
 
 ghost use Rattle.std.specs.Prelude.{◌≡◌};
 ghost use Rattle.tof.specs.TofAnswers.{build_says, build_answer, bin_says, bin_answer, range_says, range_answer, center_says, center_answer, center_at_answer, bounds_says, bounds_answer};
 
 // The lowest and the highest TOF, rounded down to the step, and the count of bins.
-#[derive(Drop)]
+#[derive(Clone, Copy)]
 pub struct TofScale {
     pub tof_min: u32,
     pub tof_max: u32,
@@ -13,33 +15,33 @@ pub struct TofScale {
     pub num_bins: u32,
 }
 
-#[derive(Drop)]
+#[derive(Clone, Copy)]
 pub enum BuildAnswer {
     Scale(TofScale),
     NoScale,
     Refused(u32),
 }
 
-#[derive(Drop)]
+#[derive(Clone, Copy)]
 pub enum BinAnswer {
     Bin(u32),
     NoBin,
     Refused(u32),
 }
 
-#[derive(Drop)]
+#[derive(Clone, Copy)]
 pub enum RangeAnswer {
     Range(u32, u32),
     Refused(u32),
 }
 
-#[derive(Drop)]
+#[derive(Clone, Copy)]
 pub enum CenterAnswer {
     Center(f32),
     Refused(u32),
 }
 
-#[derive(Drop)]
+#[derive(Clone, Copy)]
 pub enum BoundsAnswer {
     Bounds(f32, f32),
     Refused(u32),
