@@ -12,7 +12,7 @@ use lib.Ieee.{of_int}
 use Rattle.numeric.specs.Arith.{index_f}
 use Rattle.numeric.specs.Numeric.{in_range, all_in_range}
 use Rattle.numeric.proofs.Bounds.{one, rep-whole, round-at-most, num-plain}
-use Rattle.table.specs.Sizes.{max_number, max_fields}
+use Rattle.table.specs.Sizes.{max_number}
 use Rattle.table.specs.Text.{fields, all_digits, value, is_number, all_numbers, is_row, readings}
 use Rattle.refusal.proofs.Bools.{both}
 

@@ -1,4 +1,6 @@
 // The text of the printed table: lines read, lines written.
+#![tactic(auto)]
+
 pub mod inner;
 
 ghost use Rattle.std.specs.Prelude.{◌≡◌, ◌&&◌, ◌≤◌, ◌<◌, ◌+◌, ◌-◌, ◌*◌, leb};
@@ -31,28 +33,28 @@ pub const LINE_ROOM: usize = 188420;
 // ---- what lines are
 
 // What a line is as a row: the count of its numbers, or bad.
-#[derive(Drop)]
+#[derive(Clone, Copy)]
 pub enum RowText {
     Row(usize),
     Bad,
 }
 
 // What a line is as parameters.
-#[derive(Drop)]
+#[derive(Clone, Copy)]
 pub enum ParamsText {
     Params(ImDetectParams),
     Bad,
 }
 
 // What a field is as a number to a limit.
-#[derive(Drop)]
+#[derive(Clone, Copy)]
 pub enum NumberText {
     Number(u32),
     Bad,
 }
 
 // The place of an LF.
-#[derive(Drop)]
+#[derive(Clone, Copy)]
 pub enum LineEnd {
     At(usize),
     Missing,
@@ -60,7 +62,7 @@ pub enum LineEnd {
 
 // What has been accepted behind the heading: the parameters, the count of fields of each row (0 before the first row) and the
 // count of rows.
-#[derive(Drop)]
+#[derive(Clone, Copy)]
 pub struct RowsSoFar {
     pub params: ImDetectParams,
     pub count: usize,
@@ -68,14 +70,14 @@ pub struct RowsSoFar {
 }
 
 // Before the first line, and after it.
-#[derive(Drop)]
+#[derive(Clone, Copy)]
 pub enum Progress {
     Start,
     Rows(RowsSoFar),
 }
 
 // What a line is answered with: the heading, a row's peaks or a refusal; but for the refusal, with what has been accepted then.
-#[derive(Drop)]
+#[derive(Clone, Copy)]
 pub enum Verdict {
     Heading(RowsSoFar),
     Row(RowsSoFar),
