@@ -95,7 +95,7 @@ fn enough_common(least: u32, share: f32, lo_a: u32, hi_a: u32, lo_b: u32, hi_b: 
 }
 
 // A window group: whether it is there, 1 or 0, and its number, 0 for a missing one.
-#[derive(Drop)]
+#[derive(Clone, Copy)]
 pub struct Group {
     pub there: u32,
     pub number: u32,
@@ -204,7 +204,7 @@ pub fn compatible_fast(a: ImPeak1D, b: ImPeak1D, p: StitchParams) -> bool
 }
 
 // The lowest and the highest row and absolute scan among the members of a group.
-#[derive(Drop)]
+#[derive(Clone, Copy)]
 pub struct Spans {
     pub min_row: u32,
     pub max_row: u32,

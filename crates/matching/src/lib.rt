@@ -1,4 +1,6 @@
 // Which peaks stitching may join.
+#![tactic(auto)]
+
 pub mod inner;
 
 // The bit pattern of the highest share: 1.
@@ -9,7 +11,7 @@ pub const MAX_SHARE: u32 = 0x3f80_0000;
 // if so told, both apexes within the scans in common. Of a whole group: how far its rows and its absolute scans may lie
 // apart, where 0 sets no limit. In the first pass both of these are widths of buckets too, out of which no group reaches
 // (`keys`).
-#[derive(Drop)]
+#[derive(Clone, Copy)]
 pub struct StitchParams {
     pub min_overlap_frames: u32,
     pub max_scan_delta: u32,
