@@ -1,28 +1,28 @@
 -- A smoothed row stays in range. In units of the smallest value (numeric/proofs/Bounds.antt) the weighted sum is at most 2 ^ t times
 -- the sum of the weights met, since scaling by a power of two goes through every rounding.
 use mathlib.Core.Path.{◌≡◌, refl, sym, ap, ◌∙◌, subst}
-use mathlib.Core.Bool.{Bool, true, false, cond, ◌&&◌}
+use mathlib.Core.Bool.{Bool, true, false, cond}
 use mathlib.Core.List.{List, [], ◌∷◌}
 use Prim.Native.Nat.{ℕ, zero, suc, ◌+◌, ◌-◌, ◌*◌, ◌/◌, ◌%◌, ◌^◌, ◌≤◌, ◌<◌, zero-le}
-use native.Mathlib.Nat.{le_trans, le_of_eq, lt_of_le_of_lt, mul_comm, mul_assoc, mul_right_comm, mul-le-mul, mul-le-mul_right, mul-le-mul_left, suc-mul, zero-mul, one-mul, add-le-add, le-suc, lt_of_lt_of_le}
+use native.Mathlib.Nat.{le_trans, le_of_eq, lt_of_le_of_lt, mul_comm, mul_assoc, mul-le-mul_right, mul-le-mul_left, suc-mul, one-mul, add-le-add, le-suc, lt_of_lt_of_le}
 use native.Mathlib.Omega.{arith}
 use borrow.Author.Tests.{ltb-true, leb-true, eqb-true}
-use lib.Dec.{T, leb, ltb, eqb, lit<, lit≤}
-use lib.Pow.{pow_pos, pow-add, pow_mono, pow-lt, shl_lt}
+use lib.Dec.{T, leb, eqb, lit<, lit≤}
+use lib.Pow.{pow-add, pow_mono, shl_lt}
 use lib.ListN.{length}
-use lib.Ieee.{Float, nan, binary32, lt, to_bits, of_bits, fits}
+use lib.Ieee.{Float, binary32, lt, to_bits, of_bits, fits}
 use lib.Ieee.Bits.{of_bits-to_bits, of_bits-fits}
 use lib.Ieee.Fits.{cond-fits, div-fits}
 use Rattle.refusal.proofs.Bools.{both, all4}
 use Rattle.limits.specs.Limits.{max_weights, max_weight, max_reading}
 use Rattle.numeric.proofs.Patterns.{range_at}
-use Rattle.numeric.proofs.Bounds.{one, mag, Num, Rep, AtMost, one-pos, rep, rep_at, rep-scale, rep-whole, add-at-most, add-at-least, mul-at-most, div-at-most, add-scaled, lt-mag, in-at-most, at_most_in, all-range, mag-zero, mag-one, mag-readings, num-zero, num-one, limit_f}
+use Rattle.numeric.proofs.Bounds.{one, mag, Num, Rep, AtMost, one-pos, rep, rep-scale, rep-whole, add-at-most, add-at-least, mul-at-most, div-at-most, add-scaled, lt-mag, in-at-most, at_most_in, all-range, mag-zero, mag-one, mag-readings, num-zero, num-one}
 use Rattle.numeric.specs.Arith.{◌⊕◌, ◌⊗◌, ◌⊘◌, 𝟎, 𝟏, at}
-use Rattle.numeric.specs.Numeric.{in_range, all_in_range}
+use Rattle.numeric.specs.Numeric.{all_in_range}
 use Rattle.numeric.specs.Plain.{AllFit}
-use Rattle.smoothing.specs.Smoothing.{tabulate, sum_from, normalised, radius, meets, weighted, met, smoothed_at, smoothed, sound_weights}
+use Rattle.smoothing.specs.Smoothing.{sum_from, normalised, radius, meets, weighted, met, smoothed_at, smoothed, sound_weights}
 use Rattle.smoothing.specs.InRange.{SmoothedInRange}
-use Rattle.smoothing.proofs.Laws.{at-tab, length-tab, tab-map, smoothed-length, normalised-length}
+use Rattle.smoothing.proofs.Laws.{at-tab, tab-map, smoothed-length, normalised-length}
 
 -- each from 0 to n units
 abbrev pub AllAtMost : List Float → ℕ → Type 0

@@ -1,6 +1,6 @@
 -- Laws of tables, of buffers that are filled from one place to another, and of weighted sums.
 use mathlib.Core.Path.{◌≡◌, refl, sym, ◌∙◌, ap}
-use mathlib.Core.Bool.{Bool, true, false, cond, not, ◌&&◌}
+use mathlib.Core.Bool.{Bool, true, false, cond}
 use mathlib.Core.List.{List, [], ◌∷◌, ◌++◌, map, map-append, append_assoc, append-nil}
 use Prim.Native.Nat.{ℕ, zero, suc, ◌+◌, ◌-◌, ◌*◌, ◌/◌, ◌%◌, ◌≤◌, ◌<◌}
 use native.Mathlib.Nat.{add-zero}
@@ -8,12 +8,11 @@ use native.Mathlib.Numerals.{add-one}
 use native.Mathlib.Omega.{arith}
 use borrow.Author.Tests.{lt-ltb, le-ltb, le-leb, lt-leb, ltb-true, ltb-false, leb-true, not-false}
 use borrow.Rule.Slice.PartMut.{put_mid, Post-is, mid_len}
-use lib.Dec.{leb, ltb, eqb}
+use lib.Dec.{ltb, eqb}
 use lib.ListN.{length, drop, take, set, length-append, length-map, take-append-drop, drop_of_length-le, get_or-append}
 use lib.Seq.{drop-cons, take-suc, take-length, set_at, get_or_at, take_at, drop_at, drop-drop, drop-length, length-take-le, get_or-take, ext_get_or}
 use lib.Ieee.{Float, nan, lt}
 use Rattle.refusal.proofs.Bools.{all4}
-use Rattle.numeric.specs.Numeric.{all_in_range}
 use Rattle.limits.specs.Limits.{max_weights}
 use Rattle.numeric.specs.Arith.{◌⊕◌, ◌⊗◌, ◌⊘◌, 𝟎, at}
 use Rattle.smoothing.specs.Smoothing.{tabulate, sum_from, normalised, radius, meets, weighted, met, smoothed_at, smoothed, sound_weights, smooth_number}

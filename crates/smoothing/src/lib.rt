@@ -1,4 +1,6 @@
 // Gaussian smoothing of a row, with the weights lent.
+#![tactic(auto)]
+
 pub mod inner;
 
 ghost use Rattle.std.specs.Prelude.{◌≡◌, cond, ◌++◌, eqb, ◌≤◌, length, take, drop};
@@ -6,7 +8,7 @@ ghost use Rattle.refusal.specs.Answers.{answer_by};
 ghost use Rattle.smoothing.specs.Smoothing.{smoothed, smooth_number};
 ghost use Rattle.smoothing.specs.Answer.{smooth_says};
 
-#[derive(Drop)]
+#[derive(Clone, Copy)]
 pub enum SmoothAnswer {
     Smoothed,
     Refused(u32),
