@@ -4,11 +4,11 @@ use Rattle.std.specs.Float.{binary32}
 use Rattle.std.specs.Float.Ieee.{of_bits, to_bits, of_int, add, sub, neg, mul, lt, is_nan}
 use Rattle.refusal.specs.Refusal.{first_of}
 use Rattle.refusal.specs.Answers.{Says, answer_by}
-use Rattle.numeric.specs.Arith.{◌⊗◌, 𝟎, 𝟏, index_f}
+use Rattle.numeric.specs.Arith.{𝟎, 𝟏, index_f}
 use Rattle.numeric.specs.Numeric.{max_f, abs_f, in_range, all_in_range}
 use Rattle.rank.specs.Rank.{counted, first_at, ranked, rank_f, distances, steps_from, steps}
 use Rattle.noise.specs.Noise.{middle, to_sigma, noise_f, shortest, dt_f, noise_number, noise_says}
-use Rattle.noise.specs.declared.NoiseAnswer.TheVariants.{Noise, Refused}
+use Rattle.noise.specs.declared.NoiseAnswer.TheVariants.{Noise}
 
 -- whole numbers as readings
 abbrev row : List ℕ → List Float

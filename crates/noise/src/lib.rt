@@ -1,11 +1,13 @@
 // The noise of a trace.
+#![tactic(auto)]
+
 pub mod inner;
 
 ghost use Rattle.std.specs.Prelude.{◌≡◌};
 ghost use Rattle.refusal.specs.Answers.{answer_by};
 ghost use Rattle.noise.specs.Noise.{noise_f, noise_number, noise_says};
 
-#[derive(Drop)]
+#[derive(Clone, Copy)]
 pub enum NoiseAnswer {
     Noise(f32),
     Refused(u32),
