@@ -1,5 +1,7 @@
 // Why a line is refused, for a word on standard error. A fault is found exactly where the line is refused; which of its faults is told is
 // left open. What is printed is decided by `table` alone.
+#![tactic(auto)]
+
 ghost use Rattle.std.specs.Prelude.{◌≡◌, true, false, not, ◌≤◌, ◌<◌, ◌+◌, length, drop};
 ghost use Rattle.table.specs.Text.{fields, is_number, comma_at, row_text, params_of};
 ghost use Rattle.table.specs.Table.{opened, counted, verdict};
@@ -8,7 +10,7 @@ ghost use Rattle.linefault.specs.Faults.{limit_of, all_within, refuses, refused_
 use table::{NumberText, Progress, RowsSoFar};
 
 // What is wrong with a line.
-#[derive(Drop)]
+#[derive(Clone, Copy)]
 pub enum What {
     Nothing,
     NoLine,
@@ -27,7 +29,7 @@ pub enum What {
 
 // What is wrong with a line, if anything, and where: in which field (or with how many of them) and at which column, both counted from 1,
 // and by which byte.
-#[derive(Drop)]
+#[derive(Clone, Copy)]
 pub struct Fault {
     pub bad: bool,
     pub what: What,
