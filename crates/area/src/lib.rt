@@ -1,11 +1,13 @@
 // The area under a row of readings.
+#![tactic(auto)]
+
 pub mod inner;
 
 ghost use Rattle.std.specs.Prelude.{◌≡◌};
 ghost use Rattle.refusal.specs.Answers.{answer_by};
 ghost use Rattle.area.specs.Area.{area_f, area_number, area_says};
 
-#[derive(Drop)]
+#[derive(Clone, Copy)]
 pub enum AreaAnswer {
     Area(f32),
     Refused(u32),
