@@ -1,2 +1,4 @@
 // Where a row turns: its valleys and its candidates.
+#![tactic(auto)]
+
 pub mod inner;
