@@ -1,6 +1,6 @@
 -- The whole number nearest to a float below 2 ^ 23, found from its whole halves.
 use mathlib.Core.Path.{◌≡◌, refl, sym, ap, ◌∙◌, subst}
-use mathlib.Core.Bool.{Bool, true, false, cond, ◌&&◌}
+use mathlib.Core.Bool.{Bool, true, false, ◌&&◌}
 use Prim.Native.Nat.{ℕ, zero, suc, ◌+◌, ◌-◌, ◌*◌, ◌/◌, ◌%◌, ◌^◌, ◌≤◌, ◌<◌, min}
 use native.Mathlib.Nat.{le_trans, le_refl, lt_of_lt_of_le, mul-one, mul-pos, mul_assoc, add-div_right, div-div-eq-div-mul, div-lt_iff_lt-mul, mul_right_comm, mul_left_comm, add-mul, not-le_of_lt}
 use native.Mathlib.Omega.{arith}
@@ -8,7 +8,7 @@ use borrow.Author.Tests.{ltb-true, leb-true, leb-false, le-ltb}
 use lib.Dec.{T, ltb, leb, eqb, ltb→lt, leb→le, eqb→eq, lit<, lit≤}
 use lib.IntN.{ℤ, pos, negsuc}
 use lib.Pow.{pow-add, pow_pos, pow-lt, pow_mono, shl_lt}
-use lib.Ieee.{Float, nan, inf, fin, binary32, up, down, lt, add, sum, round, of_int, of_bits, to_unsigned, fits, is_nan}
+use lib.Ieee.{Float, nan, inf, fin, binary32, up, down, lt, add, sum, of_int, of_bits, to_unsigned, fits, is_nan}
 use lib.Ieee.Fits.{and_l, and_r, down_pos}
 use lib.Ieee.Exact.{HasValue, round_exact}
 use lib.Ieee.Back.{round_whole}

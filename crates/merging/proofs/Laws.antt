@@ -2,11 +2,9 @@
 use mathlib.Core.Path.{◌≡◌, refl, ap}
 use mathlib.Core.Bool.{Bool, true, false, cond, ◌&&◌, ◌||◌}
 use mathlib.Core.List.{List, [], ◌∷◌, ◌++◌, append-nil, foldl-append}
-use Prim.Native.Nat.{ℕ}
 use lib.Ieee.{Float}
 use Rattle.numeric.specs.Arith.{◌⊕◌, ◌⊘◌, 𝟎, 𝟏}
 use Rattle.numeric.specs.Numeric.{max_f}
-use Rattle.refusal.proofs.Bools.{clash}
 use Rattle.numeric.proofs.Laws.{and-true, and_assoc}
 use Rattle.record.specs.declared.ImPeak1D.{ImPeak1D}
 use Rattle.peaklist.specs.Extremes.{is_any}

@@ -9,7 +9,7 @@ ghost use Rattle.merging.specs.Walk.{sums_of, bounds_of, heights_of, Holds};
 use record::{ImPeak1D, PeakId};
 
 // Sums over the peaks so far: of their weights, of their areas, and of five further fields, each value times the peak's weight.
-#[derive(Drop)]
+#[derive(Clone, Copy)]
 pub struct Sums {
     pub weight: f32,
     pub area: f32,
@@ -21,7 +21,7 @@ pub struct Sums {
 }
 
 // The extremes of the bounds of the peaks so far.
-#[derive(Drop)]
+#[derive(Clone, Copy)]
 pub struct Bounds {
     pub tof_lo: u32,
     pub tof_hi: u32,
@@ -36,7 +36,7 @@ pub struct Bounds {
 }
 
 // The highest of the heights of the peaks so far.
-#[derive(Drop)]
+#[derive(Clone, Copy)]
 pub struct Heights {
     pub smoothed: f32,
     pub raw: f32,
@@ -46,7 +46,7 @@ pub struct Heights {
 // What is kept of the peaks of a group so far. The two sums for the scan sigma, of weights and of values times weights, are over
 // the peaks that have one. The mobility is that of the first peak that has one. `group` is the first peak's, and is looked at
 // where all the peaks are of one group.
-#[derive(Drop)]
+#[derive(Clone, Copy)]
 pub struct Merging {
     pub sums: Sums,
     pub bounds: Bounds,
