@@ -1,4 +1,5 @@
 // The limits of document 01, and the type of identities.
+#![tactic(auto)]
 
 // Peak identities, from 0 on.
 pub type PeakId = u32;
