@@ -1,1 +1,2 @@
 // The numbers that refuse an input: definitions and laws alone (specs/, proofs/).
+#![tactic(auto)]
