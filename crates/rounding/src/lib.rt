@@ -1,4 +1,6 @@
 // Rust's floor, ceil and round of an f32: total.
+#![tactic(auto)]
+
 pub mod near;
 
 ghost use Rattle.std.specs.Prelude.{◌≡◌, true};
