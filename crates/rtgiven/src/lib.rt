@@ -1,4 +1,6 @@
 // Thresholds and parameters that are handed over as numbers.
+#![tactic(auto)]
+
 ghost use Rattle.std.specs.Prelude.{◌≡◌};
 ghost use Rattle.rtgiven.specs.Given.{threshold_of, params_of};
 
