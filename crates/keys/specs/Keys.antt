@@ -1,9 +1,8 @@
 -- What peaks are sorted by: a list of numbers, of which the first that differs decides, the identity last.
-use Rattle.std.specs.Prelude.{Bool, true, cond, ◌&&◌, List, [], ◌∷◌, ◌++◌, ℕ, ◌+◌, ◌/◌, max, eqb}
+use Rattle.std.specs.Prelude.{Bool, cond, ◌&&◌, List, [], ◌∷◌, ◌++◌, ℕ, ◌+◌, ◌/◌, max, eqb}
 use Rattle.record.specs.Record.{id_words}
 use Rattle.record.specs.declared.ImPeak1D.{ImPeak1D}
 use Rattle.matching.specs.declared.StitchParams.{StitchParams}
-use Rattle.matching.specs.declared.inner.Group.{Group}
 use Rattle.matching.specs.Matching.{group_of}
 use Rattle.keys.specs.declared.KeyRule.{KeyRule}
 use Rattle.keys.specs.declared.KeyRule.TheVariants.{First, Second, Identity}

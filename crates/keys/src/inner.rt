@@ -13,7 +13,7 @@ use record::ImPeak1D;
 
 // The bucket of a peak in the first pass: whether its window group is there, and the group, both 0 where crossing is allowed;
 // which interval of scans and which interval of rows.
-#[derive(Drop)]
+#[derive(Clone, Copy)]
 pub struct Bucket {
     pub there: u32,
     pub group: u32,

@@ -1,10 +1,12 @@
 // What stitching sorts peaks by: the numbers of a key, as words of a table that has a row a peak.
+#![tactic(auto)]
+
 pub mod inner;
 
 use matching::StitchParams;
 
 // By which key: that of the first pass, with the parameters, that of the second, which looks at none, or the identity alone.
-#[derive(Drop)]
+#[derive(Clone, Copy)]
 pub enum KeyRule {
     First(StitchParams),
     Second,

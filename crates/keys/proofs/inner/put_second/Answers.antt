@@ -1,0 +1,21 @@
+use mathlib.Core.Path.{refl, ◌∙◌}
+use Prim.Native.Nat.{◌-◌, ◌+◌, ◌*◌}
+use native.Mathlib.Omega.{arith}
+use lib.ListN.{length}
+use Rattle.keys.specs.declared.KeyRule.TheVariants.{Second}
+use Rattle.keys.specs.Keys.{width_of}
+use Rattle.keys.proofs.Laws.{table_none, table_step}
+use borrow.Rule.Slice.PartMut.{same_len_mid}
+use Rattle.keys.proofs.inner.put_second.Goals as goal
+
+pub loop-k-init : goal.loop-k-init
+loop-k-init c = (omega arith, refl, table_none _ _ _)
+
+pub loop-k-preserved : goal.loop-k-preserved
+unfolding width_of
+loop-k-preserved c = let k = c.put_second_key in
+    let i = c.loop-k in (
+      omega arith,
+      same_len_mid (i.k * 6) (length i.table - i.k * 6) i.table k.new.out k.auto.out ∙ i.invariant.1,
+      table_step Second c.args.list.now i.table c.args.table.now k.new.out i.k 6 (i.k * 6) ((i.k + 1) * 6) refl refl (omega arith) i.invariant.2 (rw c.peak_at-p.ensures at k.ensures),
+    )
