@@ -1,0 +1,21 @@
+use mathlib.Core.Bool.{◌&&◌}
+use Rattle.numeric.proofs.Laws.{and-true, and_assoc}
+use Rattle.params.specs.Params.{all_up_to}
+use Rattle.params.proofs.Laws.{up-to-step, up-to-end}
+use mathlib.Core.Path.{sym, ◌∙◌, ap}
+use mathlib.Core.Bool.{Bool}
+use Prim.Native.Nat.{◌+◌}
+use native.Mathlib.Omega.{arith}
+use lib.Dec.{leb}
+use lib.ListN.{get_or, drop}
+use Rattle.params.proofs.inner.all_up_to.Goals as goal
+
+pub loop-i-preserved : goal.loop-i-preserved
+loop-i-preserved c = let axis = c.args.axis.now in
+    let limit = c.args.limit in (
+      omega arith,
+      c.loop-i.invariant.1 ∙ ap (λ (b : Bool). c.loop-i.all && b) (up-to-step limit axis c.loop-i.i (omega arith)) ∙ and_assoc c.loop-i.all (leb (get_or axis c.loop-i.i 0) limit) (all_up_to limit (drop (c.loop-i.i + 1) axis)),
+    )
+
+pub returns : goal.returns
+returns c = sym (c.loop-i.invariant.1 ∙ ap (λ (b : Bool). c.loop-i.all && b) (up-to-end c.args.limit c.args.axis.now c.loop-i.i (omega arith)) ∙ and-true c.loop-i.all)
