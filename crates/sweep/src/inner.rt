@@ -8,7 +8,7 @@ ghost use Rattle.sweep.specs.Stack.{Marked, Roomy, Stacked, Walks, Ends, High, P
 ghost use Rattle.sweep.specs.Searched.{Room, Searched};
 
 // What stays on the stack: how many entries, and the lowest valley behind the top one.
-#[derive(Drop)]
+#[derive(Clone, Copy)]
 struct Rest {
     depth: usize,
     low: u32,

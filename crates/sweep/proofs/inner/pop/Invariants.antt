@@ -1,0 +1,13 @@
+use mathlib.Core.Path.{◌≡◌}
+use Prim.Native.Nat.{◌-◌}
+use lib.ListN.{length}
+use Rattle.sweep.specs.Lows.{mark_at}
+use Rattle.sweep.specs.Stack.{Stacked, Passes}
+use Rattle.sweep.proofs.inner.pop.Given as goal
+
+abbrev pub invariant-loop-d : goal.invariant-loop-d
+invariant-loop-d l =
+    (length l.bases ≡ length l.initial.bases) × Stacked (mark_at l.y l.turns) l.m l.k l.bases l.stack l.d l.least × Passes (mark_at l.y l.turns) l.k l.h l.stack l.low l.d l.least
+
+abbrev pub decreases-loop-d : goal.decreases-loop-d
+decreases-loop-d l = l.d
