@@ -14,7 +14,7 @@ const ENTRY: usize = 9;
 const LONG: usize = 16;
 
 // The feet of an apex at a height, the crossings and the width between them, rounded.
-#[derive(Drop)]
+#[derive(Clone, Copy)]
 pub struct Reach {
     pub left_foot: usize,
     pub right_foot: usize,
@@ -24,7 +24,7 @@ pub struct Reach {
 }
 
 // What is measured of an apex at a height.
-#[derive(Drop)]
+#[derive(Clone, Copy)]
 pub struct Span {
     pub left: u32,
     pub right: u32,
@@ -35,7 +35,7 @@ pub struct Span {
 }
 
 // What is seen of an apex: whether it is wide enough, its span if so, and how many spans the memo has then.
-#[derive(Drop)]
+#[derive(Clone, Copy)]
 pub struct Look {
     pub wide: bool,
     pub span: Span,

@@ -1,0 +1,29 @@
+use Rattle.spans.specs.Memo.{kept_span}
+use Rattle.spans.proofs.Laws.{word-new, word-old}
+use Rattle.record.proofs.Laws.{put-part}
+use borrow.Rule.Slice.PartMut.{put_mid}
+use mathlib.Core.Path.{◌≡◌}
+use mathlib.Core.List.{[], ◌∷◌, ◌++◌}
+use Prim.Native.Nat.{ℕ, ◌≤◌, ◌<◌, ◌-◌, ◌+◌, ◌*◌}
+use native.Mathlib.Omega.{arith}
+use lib.ListN.{length, get_or, drop, take}
+use Rattle.spans.proofs.inner.keep.Goals as goal
+
+pub returns : goal.returns
+unfolding kept_span
+returns c = let args = c.args in
+    let memo = args.memo.now in
+    let x = args.s in
+    let R = c.kept_word-height.result ∷ args.from ∷ args.to ∷ x.left ∷ x.right ∷ x.width ∷ c.kept_word-left_x.result ∷ c.kept_word-right_x.result ∷ c.kept_word-area.result ∷ [] in
+    let a = args.t * 9 in
+    let after = put_mid a (length memo - a) memo c.put_words.new.out in
+    let l : a ≤ length memo = omega arith in
+    let e : after ≡ take a memo ++ (R ++ drop (a + 9) memo) = put-part memo R c.put_words.new.out a 9 c.put_words.ensures in
+    let w : (j : ℕ) → j < 9 → get_or after (a + j) 0 ≡ get_or R j 0 = word-new memo R (drop (a + 9) memo) after a l e in
+    record {
+      height = rw (w 0 (omega arith)) c.kept_word-height.ensures;
+      left = w 1 (omega arith);
+      right = w 2 (omega arith);
+      span = simp (w 3 (omega arith), w 4 (omega arith), w 5 (omega arith), w 6 (omega arith), w 7 (omega arith), w 8 (omega arith), c.kept_word-left_x.ensures, c.kept_word-right_x.ensures, c.kept_word-area.ensures);
+      others = word-old memo R (drop (a + 9) memo) after a l e;
+    }
