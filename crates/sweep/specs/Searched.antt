@@ -5,7 +5,7 @@ use Rattle.std.specs.Float.Ieee.{of_bits}
 use Rattle.limits.specs.Limits.{exact_index}
 use Rattle.numeric.specs.Plain.{AllPlain}
 use Rattle.apex.specs.Apex.{candidates, baseline}
-use Rattle.turns.specs.Turns.{turn, Turning, apexes_of}
+use Rattle.turns.specs.Turns.{turn, apexes_of}
 
 -- room for a row's turns, for the bases of its apexes, and for two words of each apex on the stack
 pub record Room (y : List Float) (turns bases stack : List ℕ) : Type 0 where

@@ -1,5 +1,4 @@
 use mathlib.Core.Path.{◌≡◌}
-use Prim.Native.Nat.{◌-◌}
 use lib.ListN.{length}
 use Rattle.sweep.specs.Lows.{mark_at}
 use Rattle.sweep.specs.Stack.{Stacked}
