@@ -1,5 +1,5 @@
 -- Worked cases, each by computation; they need not be read to know what is promised.
-use Rattle.std.specs.Prelude.{◌≡◌, refl, Bool, true, false, List, [], ◌∷◌, leb, ltb}
+use Rattle.std.specs.Prelude.{◌≡◌, refl, true, false, [], ◌∷◌}
 use Rattle.params.specs.Params.{all_up_to, rising, rising_from}
 use Rattle.frameindex.specs.FrameIndex.{climbs_from, climbs_to, frames_rise_from, frames_rise, sound_lists}
 

@@ -5,7 +5,7 @@ ghost use Rattle.frameindex.specs.FrameIndex.{climbs_to, bins_between, frames_ri
 
 // What reading an index shows: lengths that agree (number 1), a size above its limit (2), readings (3) and scans (5) in range, and
 // whether it is sound (23).
-#[derive(Drop)]
+#[derive(Clone, Copy)]
 pub struct Seen {
     pub agreeing: bool,
     pub too_large: bool,

@@ -8,7 +8,7 @@ use super::inner::Seen;
 // What a call is asked besides its index, each true where it is met: lengths that agree (number 1), sizes within their limits (2),
 // parameters (4), TOF values and scans (5) and records (9) in range, room for what is written (20), scratch (21), and a scale whose
 // numbers agree (22).
-#[derive(Drop)]
+#[derive(Clone, Copy)]
 pub struct Further {
     pub lengths: bool,
     pub sizes: bool,
