@@ -1,8 +1,8 @@
 -- Every float of a merged peak is one of binary32, if those of the members are.
-use mathlib.Core.Path.{◌≡◌, refl, ap, ◌∙◌}
+use mathlib.Core.Path.{◌≡◌, refl}
 use mathlib.Core.Bool.{Bool, true, false, cond}
 use mathlib.Core.List.Memᴰ
-use mathlib.Core.List.{List, [], ◌∷◌, foldl, map, Memᴰ}
+use mathlib.Core.List.{List, [], ◌∷◌, foldl}
 use mathlib.Core.List.Memᴰ.{head as here}
 use mathlib.Core.List.Memᴰ.{tail as there}
 use mathlib.Core.Logic.{⊎_elim}

@@ -1,6 +1,6 @@
 -- One pass of stitching over a list of peaks: the peaks are sorted, cut into groups in their order, and each group is merged into one
 -- peak. A group is the list of its members' places, in their order.
-use Rattle.std.specs.Prelude.{Bool, true, false, cond, ◌&&◌, ◌||◌, List, [], ◌∷◌, ◌++◌, map, reverse, ℕ, suc, eqb, length}
+use Rattle.std.specs.Prelude.{Bool, true, false, cond, ◌&&◌, ◌||◌, List, [], ◌∷◌, map, reverse, ℕ, suc, eqb, length}
 use Rattle.record.specs.declared.ImPeak1D.{ImPeak1D}
 use Rattle.peaklist.specs.PeakList.{nth}
 use Rattle.digits.specs.Sorted.{sorted_by, up_to}
