@@ -4,15 +4,15 @@ use mathlib.Core.Path.{◌≡◌, refl, sym, ap, ◌∙◌, subst}
 use mathlib.Core.Bool.{Bool, true, false, cond}
 use mathlib.Core.List.{List, [], ◌∷◌, ◌++◌, map, map-append}
 use Prim.Native.Nat.{ℕ, zero, suc, ◌≤◌, ◌<◌, ◌+◌, ◌-◌, ◌*◌, ◌^◌, zero-le}
-use native.Mathlib.Nat.{le_trans, le_of_eq, mul_comm, mul_assoc, one-mul, zero-mul, add-mul, suc-mul, add-le-add, mul-le-mul_right, mul_right_comm}
+use native.Mathlib.Nat.{le_trans, le_of_eq, mul_comm, mul_assoc, one-mul, suc-mul, add-le-add, mul-le-mul_right}
 use native.Mathlib.Omega.{arith}
 use borrow.Author.Tests.{ltb-true, ltb-false}
-use lib.Dec.{T, ltb, lit<, lit≤}
+use lib.Dec.{ltb, lit<}
 use lib.Pow.{pow-add}
 use lib.ListN.{length, get_or, length-map, get_or-append}
 use lib.Seq.{get_or_at}
 use lib.Ieee.{Float, nan}
-use Rattle.numeric.proofs.Bounds.{one, mag, Num, Rep, AtMost, rep_at, add-at-most, mag-zero, num-zero}
+use Rattle.numeric.proofs.Bounds.{one, Rep, AtMost, rep_at, add-at-most, mag-zero, num-zero}
 use Rattle.numeric.specs.Arith.{◌⊕◌, 𝟎, at}
 use Rattle.digits.specs.Sorted.{up_to}
 use Rattle.digits.proofs.UpTo.{upto-length}
@@ -46,6 +46,7 @@ rep-count n t h k = go (ltb n (2 ^ 24)) refl
 -- the sum of a frame of a range
 pub sum-at : (ix : Index) (w : Window) (f n i : ℕ) → i < n → at (frame_sums ix w f n) i ≡ add_frame ix w (f + i) 𝟎
 unfolding frame_sums up_to
+sum-at ix w f zero i h = elim h [ ]
 sum-at ix w f (suc n) i h = go (ltb i n) refl (λ k. sum-at ix w f n i k)
   where
     g : ℕ → Float

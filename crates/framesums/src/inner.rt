@@ -4,7 +4,7 @@ ghost use Rattle.framesums.specs.Sums.{add_points, add_frame, frame_sums};
 ghost use Rattle.framesums.specs.Steps.{index_of, Checked, Rising, FirstAt, any_in, PointsOf};
 
 // Bins and scans, ends included.
-#[derive(Drop)]
+#[derive(Clone, Copy)]
 pub struct Window {
     pub bin_lo: u32,
     pub bin_hi: u32,
@@ -13,7 +13,7 @@ pub struct Window {
 }
 
 // Points from a place on, before another.
-#[derive(Drop)]
+#[derive(Clone, Copy)]
 pub struct Span {
     pub from: usize,
     pub to: usize,
