@@ -7,17 +7,17 @@ use native.Mathlib.Omega.{arith}
 use native.Mathlib.Numerals.{add-one}
 use native.Mathlib.Nat.{zero-add}
 use borrow.Rule.Slice.PartMut.{put_mid}
-use borrow.Author.Tests.{ltb-true, ltb-false, lt-ltb, le-ltb, le-leb, lt-leb}
-use lib.Dec.{T, ltb, leb, lit<}
-use lib.ListN.{length, get_or, take, drop, length-append, length-take, length-drop, drop_of_length-le, get_or-append}
+use borrow.Author.Tests.{ltb-true, ltb-false, lt-ltb, le-ltb}
+use lib.Dec.{ltb, leb, lit<}
+use lib.ListN.{length, get_or, take, drop, length-append, length-drop, drop_of_length-le, get_or-append}
 use lib.Seq.{drop-cons, length-take-le, get_or-append-add, get_or-take, drop_at, take_all}
-use lib.Ieee.{Float, nan, binary32, lt, le, is_nan, of_bits, fits}
+use lib.Ieee.{Float, nan, binary32, lt, le, is_nan, of_bits}
 use lib.Ieee.Bits.{of_bits-to_bits}
 use Rattle.numeric.specs.Arith.{at, 𝟎, ½, ◌⊕◌, ◌⊗◌, ◌⊖◌}
 use Rattle.refusal.proofs.Bools.{clash}
 use Rattle.numeric.proofs.Order.{lt-no-nan, lt_not_le, lt_trans, not-lt, lt-le-trans}
 use Rattle.apex.specs.Apex.{baseline, prominence, half_height}
-use Rattle.spans.specs.Span.{span_of, width_of}
+use Rattle.spans.specs.Span.{span_of}
 use Rattle.params.specs.declared.ImDetectParams.{ImDetectParams}
 use Rattle.apex.proofs.Candidates.{count}
 use Rattle.turns.specs.Turns.{turn, apexes_of}

@@ -1,5 +1,5 @@
 -- Which apexes of one TOF row qualify, and which of them are kept: y is the smoothed row, z the raw one, both over the same scans.
-use Rattle.std.specs.Prelude.{Bool, true, false, cond, not, ◌&&◌, List, [], ◌∷◌, ℕ, leb, Float}
+use Rattle.std.specs.Prelude.{Bool, cond, not, ◌&&◌, List, [], ◌∷◌, ℕ, leb, Float}
 use Rattle.std.specs.Float.Ieee.{lt}
 use Rattle.numeric.specs.Arith.{𝟎}
 use Rattle.apex.specs.Apex.{candidates, prominence, half_height, left_crossing, right_crossing}

@@ -12,7 +12,7 @@ ghost use Rattle.rowsearch.specs.Found.{found_size, word, measured_words, measur
 use params::ImDetectParams;
 
 // What is measured of an apex.
-#[derive(Drop)]
+#[derive(Clone, Copy)]
 pub struct Measured {
     pub index: usize,
     pub left: u32,
@@ -25,7 +25,7 @@ pub struct Measured {
 }
 
 // How many apexes are kept so far, the newest of them, and how many spans the memo has.
-#[derive(Drop)]
+#[derive(Clone, Copy)]
 pub struct Keeping {
     pub count: usize,
     pub last: usize,

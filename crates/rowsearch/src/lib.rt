@@ -1,2 +1,4 @@
 // Which apexes of a row are kept, and what is measured of them.
+#![tactic(auto)]
+
 pub mod inner;
