@@ -2,7 +2,7 @@
 use mathlib.Core.Path.{◌≡◌, refl, sym, ap, ◌∙◌, subst}
 use mathlib.Core.Bool.{true}
 use mathlib.Core.List.{List, [], ◌∷◌, ◌++◌, append_assoc}
-use Prim.Native.Nat.{ℕ, zero, suc, ◌≤◌, ◌<◌, ◌+◌, ◌-◌, ◌*◌}
+use Prim.Native.Nat.{ℕ, zero, suc, ◌≤◌, ◌<◌, ◌+◌, ◌*◌}
 use native.Mathlib.Omega.{arith}
 use native.Mathlib.Nat.{zero-mul, one-mul, add-mul, mul_assoc}
 use borrow.Author.Tests.{not-false, eqb-true, ltb-false, leb-true}
@@ -29,7 +29,7 @@ use Rattle.rowsearch.specs.Found.{measured_of, measured_at, oldest, Searchable}
 use Rattle.rowsearch.specs.declared.inner.Measured.{Measured}
 use Rattle.rowsearch.proofs.Laws.{Next}
 use Rattle.row.specs.declared.inner.OnAxes.{OnAxes}
-use Rattle.row.specs.Row.{on_axes, mobility_at, mobility_flag, group_flag, group_word, scan_at, subscan, peak_of, row_words}
+use Rattle.row.specs.Row.{on_axes, mobility_at, mobility_flag, group_flag, group_word, subscan, peak_of, row_words}
 use Rattle.row.specs.RowNumber.{same_lengths, sound_readings, sound_values, row_number}
 use Rattle.row.proofs.RowNumberLaws.{none-for}
 use Rattle.row.proofs.RowWords.{row-words-length}

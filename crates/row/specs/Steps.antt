@@ -1,5 +1,5 @@
 -- The steps of the row finder: what it asks of its arguments, and its records as they are listed.
-use Rattle.std.specs.Prelude.{◌≡◌, true, List, ◌++◌, ℕ, ◌+◌, ◌*◌, ◌^◌, ◌≤◌, ◌<◌, length, drop, Float}
+use Rattle.std.specs.Prelude.{◌≡◌, true, List, ◌++◌, ℕ, ◌+◌, ◌*◌, ◌≤◌, ◌<◌, length, drop, Float}
 use Rattle.limits.specs.Limits.{any_number, exact_index, identities}
 use Rattle.numeric.specs.Arith.{𝟎}
 use Rattle.numeric.specs.Numeric.{all_in_range}

@@ -65,7 +65,7 @@ fn group_word(g: WindowGroup) -> u32
 }
 
 // Where an apex and its two ends lie on the scan axis, its mobility, and the flag that tells whether there is one.
-#[derive(Drop)]
+#[derive(Clone, Copy)]
 pub struct OnAxes {
     pub scan: u32,
     pub left: u32,

@@ -1,4 +1,6 @@
 // The mobility peaks of one TOF row over its scans.
+#![tactic(auto)]
+
 pub mod inner;
 
 ghost use Rattle.std.specs.Prelude.{◌≡◌, length};
@@ -9,7 +11,7 @@ ghost use Rattle.row.specs.RowNumber.{same_lengths, sound_readings, sound_values
 use params::{FrameBounds, ImDetectParams, RowPlace};
 use record::{ImPeak1D, PeakId};
 
-#[derive(Drop)]
+#[derive(Clone, Copy)]
 pub enum RowAnswer {
     Peaks(usize),
     Refused(u32),
