@@ -5,7 +5,7 @@ ghost use Rattle.smoothrow.specs.SmoothRow.{all_zero, Handed, Done};
 use params::ImDetectParams;
 
 // What a search of a row comes to: nothing is kept; or so many apexes, of the row itself or of the smoothed one.
-#[derive(Drop)]
+#[derive(Clone, Copy)]
 pub enum Sought {
     Nothing,
     Raw(usize),

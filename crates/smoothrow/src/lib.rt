@@ -1,2 +1,4 @@
 // A row of a grid: smoothed where weights are given, and searched.
+#![tactic(auto)]
+
 pub mod inner;
