@@ -6,12 +6,12 @@ use mathlib.Core.List.{List, [], ◌∷◌, ◌++◌, map, map-append, map-map, 
 use mathlib.Core.List.Memᴰ.{head as here}
 use mathlib.Core.List.Memᴰ.{tail as there}
 use mathlib.Core.Logic.{⊎_elim}
-use Prim.Native.Nat.{ℕ, zero, suc, ◌+◌, ◌*◌, ◌<◌, ◌≤◌}
+use Prim.Native.Nat.{ℕ, zero, suc, ◌+◌, ◌<◌, ◌≤◌}
 use native.Mathlib.Omega.{arith}
 use borrow.Author.Tests.{eqb-true, eqb-false}
 use lib.Dec.{eqb}
-use lib.ListN.{length, get_or, take, drop, length-append, length-drop, length-map, take-append-drop, get_or-append}
-use lib.Seq.{take-suc, take_at, drop_at, ext_get_or, get_or-drop, get_or-append_seam}
+use lib.ListN.{length, get_or, take, drop, length-drop, length-map, take-append-drop, get_or-append}
+use lib.Seq.{take_at, drop_at, ext_get_or, get_or-drop, get_or-append_seam}
 use Rattle.refusal.proofs.Bools.{clash}
 use Rattle.record.specs.declared.ImPeak1D.{ImPeak1D}
 use Rattle.peaklist.specs.PeakList.{nth}

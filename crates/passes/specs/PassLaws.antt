@@ -1,5 +1,5 @@
 -- What holds of a pass over a list of peaks, and of both passes.
-use Rattle.std.specs.Prelude.{◌≡◌, ℕ, ◌<◌, ◌≤◌, length, get_or}
+use Rattle.std.specs.Prelude.{ℕ, ◌<◌, ◌≤◌, length, get_or}
 use mathlib.Core.List.{List, [], Memᴰ}
 use Rattle.record.specs.declared.ImPeak1D.{ImPeak1D}
 use Rattle.matching.specs.declared.StitchParams.{StitchParams}
