@@ -1,1 +1,2 @@
 // What holds of the peaks of a row: definitions and laws alone (specs/, proofs/).
+#![tactic(auto)]
