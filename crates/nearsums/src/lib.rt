@@ -1,2 +1,4 @@
 // Sums over the points of a checked index, for one window after another.
+#![tactic(auto)]
+
 pub mod inner;
