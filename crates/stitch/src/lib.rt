@@ -1,4 +1,6 @@
 // Stitching: the peaks of a list, with those that belong together merged.
+#![tactic(auto)]
+
 pub mod inner;
 pub mod numbers;
 
@@ -7,7 +9,7 @@ ghost use Rattle.stitch.specs.Answer.{lent, Answered};
 
 use matching::StitchParams;
 
-#[derive(Drop)]
+#[derive(Clone, Copy)]
 pub enum StitchAnswer {
     Stitched(usize),
     Refused(u32),

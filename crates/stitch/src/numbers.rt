@@ -6,7 +6,7 @@ use matching::StitchParams;
 use record::ImPeak1D;
 
 // The lengths of the lists that are lent.
-#[derive(Drop)]
+#[derive(Clone, Copy)]
 pub struct Rooms {
     pub out: usize,
     pub owners: usize,
