@@ -1,3 +1,5 @@
 // Detection over the rows of a grid that the caller has checked.
+#![tactic(auto)]
+
 pub mod rows;
 pub mod sized;
