@@ -1,5 +1,5 @@
 -- Worked cases, by computation; they need not be read to know what is promised.
-use Rattle.std.specs.Prelude.{◌≡◌, refl, List, [], ◌∷◌, ℕ, min}
+use Rattle.std.specs.Prelude.{◌≡◌, refl, List, [], ◌∷◌, ℕ}
 use Rattle.rtwindow.specs.FrameWindow.{before, frame_with, widened, between, padded_window}
 use Rattle.rtwindow.specs.declared.FrameWindow.TheVariants.{Frames, NoFrames}
 

@@ -1,5 +1,5 @@
 -- The frames over which a mobility peak is followed.
-use Rattle.std.specs.Prelude.{Bool, cond, ◌&&◌, List, [], ◌∷◌, ℕ, zero, suc, ◌+◌, ◌-◌, min, ltb, eqb, length, get_or}
+use Rattle.std.specs.Prelude.{cond, ◌&&◌, List, [], ◌∷◌, ℕ, suc, ◌+◌, ◌-◌, min, ltb, eqb, length, get_or}
 use Rattle.rtwindow.specs.declared.FrameWindow.{FrameWindow}
 use Rattle.rtwindow.specs.declared.FrameWindow.TheVariants.{Frames, NoFrames}
 use Rattle.rtwindow.specs.declared.inner.Place.{Place}

@@ -6,7 +6,7 @@ ghost use Rattle.rtwindow.specs.FrameWindow.{frame_with, widened, padded_window}
 use super::FrameWindow;
 
 // The frame with a number, by its place in the run.
-#[derive(Drop)]
+#[derive(Clone, Copy)]
 pub enum Place {
     At(usize),
     Nowhere,
