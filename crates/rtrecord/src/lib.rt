@@ -1,4 +1,6 @@
 // The records of retention peaks, as words of a lent list.
+#![tactic(auto)]
+
 pub mod inner;
 
 // Peak identities. They stand last in a record, and are read and written only by the functions that name them.
@@ -6,7 +8,7 @@ pub use limits::PeakId;
 
 // What both kinds of records begin with: the apex of a retention peak in frames and in seconds, its heights, its ends and the
 // area between them.
-#[derive(Drop)]
+#[derive(Clone, Copy)]
 pub struct RtApex {
     pub rt_idx: u32,
     pub rt_sec: f32,
@@ -48,7 +50,7 @@ impl RtApex {
 // A retention peak, with what it takes over from its mobility peak. Expansion counts frames from the first of the run; the
 // fallback by itself counts them from the first of its trace. One field may be missing, the window group. A bit of `flags`
 // tells whether it is there, and a missing one is 0.
-#[derive(Drop)]
+#[derive(Clone, Copy)]
 pub struct RtPeak1D {
     pub apex: RtApex,
     pub rt_lo: u32,
@@ -100,7 +102,7 @@ impl RtPeak1D {
 }
 
 // The frames that a retention peak reaches over, and their numbers.
-#[derive(Drop)]
+#[derive(Clone, Copy)]
 pub struct RtBounds {
     pub rt_lo: u32,
     pub rt_hi: u32,
@@ -110,7 +112,7 @@ pub struct RtBounds {
 
 // A retention peak of one trace, before it is placed in the run: frames are those of the trace. The ends and the width stand
 // in seconds too.
-#[derive(Drop)]
+#[derive(Clone, Copy)]
 pub struct RtLocalPeak {
     pub apex: RtApex,
     pub left_sec: f32,
