@@ -1,5 +1,5 @@
 -- What is left of a grid, accepted or refused.
-use Rattle.std.specs.Prelude.{◌≡◌, cond, List, ◌++◌, ℕ, ◌+◌, ◌-◌, ◌*◌, eqb, length, drop, Float}
+use Rattle.std.specs.Prelude.{◌≡◌, cond, List, ◌++◌, ℕ, ◌*◌, eqb, length, drop, Float}
 use Rattle.refusal.specs.Answers.{answer_by}
 use Rattle.record.specs.Record.{size}
 use Rattle.gridrows.specs.Grid.{Grid, count_to, words_to}

@@ -1,4 +1,6 @@
 // Detection over all rows of a TOF grid.
+#![tactic(auto)]
+
 pub mod numbers;
 
 ghost use Rattle.std.specs.Prelude.{◌≡◌, length};
@@ -15,7 +17,7 @@ use params::{FrameBounds, ImDetectParams};
 use record::PeakId;
 use tof::TofScale;
 
-#[derive(Drop)]
+#[derive(Clone, Copy)]
 pub enum GridAnswer {
     Peaks(usize),
     Refused(u32),

@@ -10,7 +10,7 @@ use record::{ImPeak1D, PeakId};
 use tof::TofScale;
 
 // What reading the lists of a grid shows: how long they are, and whether what they hold is in range.
-#[derive(Drop)]
+#[derive(Clone, Copy)]
 pub struct Seen {
     pub readings: usize,
     pub scans: usize,
