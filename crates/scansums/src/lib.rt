@@ -1,2 +1,4 @@
 // Sums by scan over the points of a checked index.
+#![tactic(auto)]
+
 pub mod inner;
