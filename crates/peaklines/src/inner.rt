@@ -175,7 +175,7 @@ fn put_text(v: Verdict, row: &[f32], out: &mut [u8]) -> usize
 }
 
 // What a line is answered with, and how many bytes are printed for it.
-#[derive(Drop)]
+#[derive(Clone, Copy)]
 pub struct LineDone {
     pub verdict: Verdict,
     pub used: usize,

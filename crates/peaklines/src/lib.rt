@@ -1,2 +1,4 @@
 // The lines of a row's peaks.
+#![tactic(auto)]
+
 pub mod inner;
