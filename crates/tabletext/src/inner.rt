@@ -11,7 +11,7 @@ use table::{LineEnd, Progress, Verdict};
 
 // What some bytes give: what has been accepted then, whether the table goes on, the place behind the lines that were worked
 // through, and how many bytes are printed for them.
-#[derive(Drop)]
+#[derive(Clone, Copy)]
 pub struct Fed {
     pub progress: Progress,
     pub goes_on: bool,

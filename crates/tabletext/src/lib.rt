@@ -1,2 +1,4 @@
 // The text of the table for bytes that come some at a time.
+#![tactic(auto)]
+
 pub mod inner;
