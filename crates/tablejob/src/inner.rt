@@ -10,7 +10,7 @@ use table::Progress;
 
 // What has been accepted; the bytes that are held, from a place to another, the first `seen` of which have no LF; how many bytes of
 // text wait at the front of their buffer; and whether the table goes on.
-#[derive(Drop)]
+#[derive(Clone, Copy)]
 pub struct Job {
     pub progress: Progress,
     pub from: usize,
