@@ -1,0 +1,28 @@
+use mathlib.Core.Path.{◌≡◌, sym, ◌∙◌, ap}
+use native.Mathlib.Omega.{arith}
+use lib.ListN.{length, take}
+use Rattle.rowsearch.specs.Qualifying.{kept}
+use Rattle.rowsearch.proofs.QualifyingLaws.{kept-count}
+use Rattle.smoothrow.specs.SmoothRow.{Says}
+use Rattle.smoothrow.specs.declared.inner.Sought.TheVariants.{Nothing, Raw, Smoothed}
+use Rattle.smoothrow.proofs.Laws.{searched-length}
+use Rattle.wordbytes.specs.Bytes.{words_of, floats_of}
+use Rattle.byterows.specs.AsBytes.{as_bytes}
+use Rattle.gridrows.proofs.Laws.{ready_for, listed-none}
+use Rattle.byterows.proofs.rows.list_row.Goals as goal
+
+pub put_peaks-requires : goal.put_peaks-requires
+put_peaks-requires c = let x = c.args in
+    let h : Says x.p x.weights.now x.z.now c.search_row-sought.new.y c.search_row-sought.new.found (Raw c.in-Raw.n) = rw c.in-Raw.is at c.search_row-sought.ensures.says in
+    (c.requires.row, omega (arith, h.1.count, kept-count x.p x.z.now x.z.now), (kept x.p x.z.now x.z.now, h.1))
+
+pub put_peaks-requires-in-Smoothed : goal.put_peaks-requires-in-Smoothed
+put_peaks-requires-in-Smoothed c = let x = c.args in
+    let h : Says x.p x.weights.now x.z.now c.search_row-sought.new.y c.search_row-sought.new.found (Smoothed c.in-Smoothed.n) = rw c.in-Smoothed.is at c.search_row-sought.ensures.says in
+    let l : length (take (length x.z.now) _) ≡ length x.z.now = sym (ap length h.0) ∙ searched-length x.weights.now x.z.now in
+    (ready_for _ x.z.now (words_of x.scans.now) x.first _ l c.requires.row, omega (arith, h.1.count, kept-count x.p (take (length x.z.now) c.search_row-sought.new.y) x.z.now), (kept x.p (take (length x.z.now) c.search_row-sought.new.y) x.z.now, h.1))
+
+pub returns-in-Nothing : goal.returns-in-Nothing
+returns-in-Nothing c = let x = c.args in
+    let h : Says x.p x.weights.now x.z.now c.search_row-sought.new.y c.search_row-sought.new.found Nothing = rw c.in-Nothing.is at c.search_row-sought.ensures.says in
+    (listed-none as_bytes x.place x.bounds (floats_of x.mobility.now) x.p (words_of x.scans.now) x.weights.now x.z.now x.first x.out.now h)
