@@ -9,17 +9,15 @@ use Rattle.merging.proofs.inner.start.Goals as goal
 pub returns : goal.returns
 unfolding state_of extreme is_any have_all first_of
 returns c =
-    let sigma = c in let sigma-weight = sigma in
-    let heights = sigma-weight in
     record {
       some = refl;
       state = simp (
-        heights.start_sums.ensures,
-        heights.start_bounds.ensures,
-        heights.start_heights.ensures,
-        heights.weight_of-weight.ensures,
-        sigma-weight.choose.ensures,
-        sigma.choose-2.ensures,
+        c.start_sums.ensures,
+        c.start_bounds.ensures,
+        c.start_heights.ensures,
+        c.weight_of-weight.ensures,
+        c.choose.ensures,
+        c.choose-2.ensures,
         c.choose-3.ensures,
         c.is_of_group.ensures,
         and-true,
