@@ -24,25 +24,25 @@ pub put_keys-requires : goal.put_keys-requires
 put_keys-requires c = (c.requires.0, few (length c.args.order.now) (width_of c.args.rule) (length c.args.keys.now) (width-most c.args.rule) c.requires.2)
 
 pub order_rows-requires : goal.order_rows-requires
-order_rows-requires c = let s = c in let put = c.put_keys in
+order_rows-requires c = let put = c.put_keys in
     let w = c.width_of in
-    let n = length s.args.order.now in
-    let e : n * w.result + n * 4 ≤ length put.new.table = rw (w.ensures, put.auto.table) (few-led n (width_of s.args.rule) (length s.args.keys.now) (width-most s.args.rule) s.requires.2) in
-    let list = s.args.list.now in (
-      rw w.ensures s.requires.5,
+    let n = length c.args.order.now in
+    let e : n * w.result + n * 4 ≤ length put.new.table = rw (w.ensures, put.auto.table) (few-led n (width_of c.args.rule) (length c.args.keys.now) (width-most c.args.rule) c.requires.2) in
+    let list = c.args.list.now in (
+      rw w.ensures c.requires.5,
       e,
-      s.requires.4,
-      s.requires.1,
-      rest-ordered list n s.args.rule s.args.params s.args.words put.new.table (drop (n * width_of s.args.rule) s.args.keys.now) s.args.order.now w.result put.ensures w.ensures s.requires.6,
+      c.requires.4,
+      c.requires.1,
+      rest-ordered list n c.args.rule c.args.params c.args.words put.new.table (drop (n * width_of c.args.rule) c.args.keys.now) c.args.order.now w.result put.ensures w.ensures c.requires.6,
     )
 
 module _ (c : After-order_rows) where
   sorted-order : c.order_rows.new.order ≡ pass_order c.args.rule (peaks_of c.args.list.now (length c.args.order.now))
-  sorted-order = let s = c in let put = c.put_keys in
-      ordered s.args.list.now (length s.args.order.now) s.args.rule s.args.params put.new.table (drop (length s.args.order.now * width_of s.args.rule) s.args.keys.now) c.order_rows.new.order c.width_of.result put.ensures c.width_of.ensures c.order_rows.ensures.order
+  sorted-order = let put = c.put_keys in
+      ordered c.args.list.now (length c.args.order.now) c.args.rule c.args.params put.new.table (drop (length c.args.order.now * width_of c.args.rule) c.args.keys.now) c.order_rows.new.order c.width_of.result put.ensures c.width_of.ensures c.order_rows.ensures.order
 
   as_many : length c.order_rows.new.order ≡ length c.args.order.now
-  as_many = let s = c in order-size s.args.list.now (length s.args.order.now) s.args.rule s.args.params c.order_rows.new.order sorted-order s.requires.0
+  as_many = order-size c.args.list.now (length c.args.order.now) c.args.rule c.args.params c.order_rows.new.order sorted-order c.requires.0
 
   -- what the table holds behind a record a peak is kept
   behind : drop (length c.args.order.now * size) c.order_rows.new.keys ≡ drop (length c.args.order.now * size) c.put_keys.new.table

@@ -51,14 +51,13 @@ pass_over-found-requires c =
     let few : c.pass_from-m.result ≤ c.args.n = let ps = peaks_of c.args.list.now c.args.n in
     omega (arith, fewer c.args.params ps c.pass_from-m.result c.pass_from-m.ensures.passed.counted, peaks-length c.args.list.now c.args.n) in
     let a = c.pass_from-m in
-    let less = few in
-    let e = length-take-le (a.result * size) a.new.out (omega (arith, less, a.auto.out, c.requires.7)) in (
+    let e = length-take-le (a.result * size) a.new.out (omega (arith, few, a.auto.out, c.requires.7)) in (
       omega (arith, e),
-      omega (arith, less, a.auto.order, c.requires.4),
-      omega (arith, less, c.requires.5),
-      omega (arith, less, a.auto.keys, c.requires.6),
-      omega (arith, less, c.requires.2),
-      omega (arith, less, c.requires.1),
+      omega (arith, few, a.auto.order, c.requires.4),
+      omega (arith, few, c.requires.5),
+      omega (arith, few, a.auto.keys, c.requires.6),
+      omega (arith, few, c.requires.2),
+      omega (arith, few, c.requires.1),
     )
 
 pub hand_on-requires : goal.hand_on-requires
@@ -66,13 +65,12 @@ hand_on-requires c =
     let few : c.pass_from-m.result ≤ c.args.n = let ps = peaks_of c.args.list.now c.args.n in
     omega (arith, fewer c.args.params ps c.pass_from-m.result c.pass_from-m.ensures.passed.counted, peaks-length c.args.list.now c.args.n) in
     let a = c.pass_from-m in
-    let less = few in
     let b = c.pass_over-found in
     let ps = peaks_of c.args.list.now c.args.n in
     let l = peaks-length c.args.list.now c.args.n in
     let number = first-number c.args.params ps a.result a.ensures.passed.counted a.new.column (drop (length ps) c.args.owners.now) a.ensures.passed.numbers in (
       omega (arith, a.auto.column, c.requires.3),
-      λ k h. omega (arith, number k (omega (arith, h, l)), less, b.auto.column, c.requires.5),
+      λ k h. omega (arith, number k (omega (arith, h, l)), few, b.auto.column, c.requires.5),
     )
 
 pub returns : goal.returns
@@ -90,7 +88,6 @@ returns c =
     let m = a.result in
     let made = a.new.out in
     let rest = drop (m * size) c.args.merged.now in
-    let less = few in
     let hand = c.hand_on in
     let firsts = a.new.column in
     let seconds = b.new.column in
@@ -108,8 +105,8 @@ returns c =
             subst (λ (j : ℕ). hand.new.owners ≡ map (λ k. get_or seconds k 0) (take j firsts) ++ drop j firsts) (sym l) hand.ensures
             ∙ owned params ps m counted firsts (drop (length ps) c.args.owners.now) a.ensures.passed.numbers seconds back numbers;
       };
-      order = later b.new.order a.new.order m n less b.ensures.order ∙ a.ensures.order;
-      groups = later seconds c.args.groups.now m n less (ap (drop m) numbers ∙ column-rest (number_in (second_groups params ps)) m back);
-      keys = later b.new.keys a.new.keys (m * size) (n * size) (omega (arith, less)) (rw many at second.rest) ∙ rw l at a.ensures.passed.rest;
-      merged = later made c.args.merged.now (m * size) (n * size) (omega (arith, less)) (made-rest params ps m counted made rest a.ensures.passed.records);
+      order = later b.new.order a.new.order m n few b.ensures.order ∙ a.ensures.order;
+      groups = later seconds c.args.groups.now m n few (ap (drop m) numbers ∙ column-rest (number_in (second_groups params ps)) m back);
+      keys = later b.new.keys a.new.keys (m * size) (n * size) (omega (arith, few)) (rw many at second.rest) ∙ rw l at a.ensures.passed.rest;
+      merged = later made c.args.merged.now (m * size) (n * size) (omega (arith, few)) (made-rest params ps m counted made rest a.ensures.passed.records);
     }
