@@ -40,8 +40,7 @@ pub returns-then-put_by_identity : goal.returns-then-put_by_identity
 returns-then-put_by_identity c =
     let lent_at : Lent = let x = c.args in lent x.out.now x.owners.now x.order.now x.groups.now x.keys.now x.merged.now in
     let ordered : c.put_by_identity.new.order ≡ by_identity (peaks_in c.args.list.now) ++ drop (count_in c.args.list.now) c.args.order.now = rw c.if-put_by_identity.true at c.put_by_identity.ensures.order in
-    let s = c in
-    let x = s.args in
+    let x = c.args in
     let p = c.put_by_identity in
     let e = c.stitch_peaks.ensures in
     let k = c.stitch_peaks.new in
@@ -53,8 +52,7 @@ pub returns-then-no-eq0 : goal.returns-then-no-eq0
 returns-then-no-eq0 c =
     let lent_at : Lent = let x = c.args in lent x.out.now x.owners.now x.order.now x.groups.now x.keys.now x.merged.now in
     let p = c.put_by_identity in
-    let s = c in
-    let x = s.args in
+    let x = c.args in
     let e : p.new.order ≡ x.order.now = rw c.if-put_by_identity.false at p.ensures.order in
     let z = none (goal.at.returns-then-no-eq0 c).Then-no-eq0 in
     let eight = where-repeated x.told x.list.now x.params (rooms_of lent_at) (sym p.ensures.distinct ∙ c.if-put_by_identity.false) (λ h. absurd (omega (arith, z, h))) in
@@ -63,8 +61,7 @@ returns-then-no-eq0 c =
 pub returns-then-no-lt8 : goal.returns-then-no-lt8
 returns-then-no-lt8 c =
     let lent_at : Lent = let x = c.args in lent x.out.now x.owners.now x.order.now x.groups.now x.keys.now x.merged.now in
-    let s = c in
-    let x = s.args in
+    let x = c.args in
     let n = c.other_number-no in
     let lower = where-lower x.told x.list.now x.params (rooms_of lent_at) (omega (arith, n.ensures, c.if-no-eq0.false)) (omega (arith, n.ensures, c.if-no-lt8.true)) in
     refused n.result x.told x.list.now x.params lent_at (n.ensures ∙ lower) c.if-no-eq0.false
@@ -72,14 +69,13 @@ returns-then-no-lt8 c =
 pub all_distinct-requires : goal.all_distinct-requires
 all_distinct-requires c =
     let lent_at : Lent = let x = c.args in lent x.out.now x.owners.now x.order.now x.groups.now x.keys.now x.merged.now in
-    let few : count_in c.args.list.now ≤ max_list = let s = c in not-many s.args.told s.args.list.now s.args.params (rooms_of lent_at) (λ h. omega (arith, c.other_number-no.ensures, c.if-no-lt8.false)) in
+    let few : count_in c.args.list.now ≤ max_list = not-many c.args.told c.args.list.now c.args.params (rooms_of lent_at) (λ h. omega (arith, c.other_number-no.ensures, c.if-no-lt8.false)) in
     (omega arith, omega (arith, few))
 
 pub returns-then-all_distinct : goal.returns-then-all_distinct
 returns-then-all_distinct c =
     let lent_at : Lent = let x = c.args in lent x.out.now x.owners.now x.order.now x.groups.now x.keys.now x.merged.now in
-    let s = c in
-    let x = s.args in
+    let x = c.args in
     let n = c.other_number-no in
     let same = where-distinct x.told x.list.now x.params (rooms_of lent_at) (sym c.all_distinct.ensures ∙ c.if-all_distinct.true) in
     refused n.result x.told x.list.now x.params lent_at (n.ensures ∙ same) c.if-no-eq0.false
@@ -87,7 +83,6 @@ returns-then-all_distinct c =
 pub returns : goal.returns
 returns c =
     let lent_at : Lent = let x = c.args in lent x.out.now x.owners.now x.order.now x.groups.now x.keys.now x.merged.now in
-    let s = c in
-    let x = s.args in
+    let x = c.args in
     let eight = where-repeated x.told x.list.now x.params (rooms_of lent_at) (sym c.all_distinct.ensures ∙ c.if-all_distinct.false) (λ h. omega (arith, c.other_number-no.ensures, c.if-no-lt8.false)) in
     refused 8 x.told x.list.now x.params lent_at eight (λ h. absurd (omega arith))
