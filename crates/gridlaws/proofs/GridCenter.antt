@@ -1,19 +1,17 @@
 -- The centre of a row.
-use mathlib.Core.Path.{◌≡◌, refl, sym, ap, ◌∙◌}
+use mathlib.Core.Path.{◌≡◌, sym, ap, ◌∙◌}
 use mathlib.Core.Bool.{true, false, true≢false}
-use Prim.Native.Nat.{ℕ, ◌+◌, ◌*◌, ◌/◌, ◌≤◌, ◌<◌}
+use Prim.Native.Nat.{ℕ, ◌+◌, ◌*◌, ◌/◌, ◌<◌}
 use native.Mathlib.Nat.{add-mul, mul_comm, mul-div-mul_right}
 use native.Mathlib.Omega.{arith}
 use lib.Ieee.{Float, nan, inf, fin, binary32, up, down, round, of_int}
 use lib.Ieee.Fits.{down_pos}
 use lib.Ieee.Exact.{HasValue}
-use Rattle.limits.specs.Limits.{max_tof_bound}
 use Rattle.numeric.specs.Numeric.{cast_f}
 use Rattle.numeric.specs.Arith.{index_f}
 use Rattle.rounding.specs.Rounding.{round_f}
 use Rattle.rounding.proofs.Guess.{cast-index}
-use Rattle.tof.specs.declared.TofScale.{TofScale}
-use Rattle.tof.specs.Tof.{Sound, edge, center_f, row_place}
+use Rattle.tof.specs.Tof.{edge, center_f}
 use Rattle.tof.proofs.Exact.{center-exact}
 use Rattle.tof.proofs.TofLaws.{edges-held, upper-edge}
 use Rattle.gridlaws.specs.GridCenter.{CenterIsRusts}
@@ -21,6 +19,8 @@ use Rattle.gridlaws.specs.GridCenter.{CenterIsRusts}
 -- half a whole number, rounded: a half goes up
 half-rounds : (x : Float) (k : ℕ) → HasValue x false k 2 → round_f x ≡ index_f ((k + 1) / 2)
 unfolding round_f of_int
+half-rounds nan k v = elim v [ ]
+half-rounds (inf _) k v = elim v [ ]
 half-rounds (fin true m e) k v = absurd (true≢false v.0)
 half-rounds (fin false m e) k v =
     let a = m * up e in

@@ -11,7 +11,6 @@ use lib.Dec.{T, ltb}
 use lib.ListN.{length, get_or, take, drop, length-take, length-drop}
 use lib.Seq.{get_or-append-add, get_or-take, get_or-drop}
 use lib.Ieee.{Float, nan, binary32, fits}
-use Rattle.numeric.specs.Arith.{at}
 use Rattle.numeric.specs.Plain.{AllFit}
 use Rattle.record.specs.declared.ImPeak1D.{ImPeak1D}
 use Rattle.record.specs.Record.{size, peak_at}

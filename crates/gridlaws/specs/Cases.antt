@@ -1,14 +1,14 @@
 -- A worked case, which need not be read to know what is promised: a grid of two rows `0 4 0` and `0 8 0` that is accepted, with one peak
 -- in each.
-use Rattle.std.specs.Prelude.{◌≡◌, refl, List, [], ◌∷◌, map, ℕ, ◌*◌, length, Float}
-use Rattle.std.specs.Float.Ieee.{of_int, of_bits, to_bits, add, sub, mul, div, lt, le, eq, ne, is_nan, to_unsigned}
+use Rattle.std.specs.Prelude.{◌≡◌, refl, [], ◌∷◌, map, ◌*◌}
+use Rattle.std.specs.Float.Ieee.{of_int, of_bits, to_bits, add, sub, mul, div, lt, le, ne, is_nan, to_unsigned}
 use Rattle.refusal.specs.Refusal.{first_of}
 use Rattle.numeric.specs.Arith.{index_f, 𝟎}
 use Rattle.numeric.specs.Numeric.{max_f, in_range, all_in_range}
 use Rattle.rounding.specs.Rounding.{round_f}
 use Rattle.apex.specs.Apex.{is_candidate, candidates_to, left_of, up_to_higher, least, baseline, prominence, half_height, run_above, part_way, left_crossing, right_crossing}
 use Rattle.spans.specs.Span.{width_of}
-use Rattle.record.specs.Record.{size, peak_from, peak_at}
+use Rattle.record.specs.Record.{size}
 use Rattle.params.specs.Params.{sound_params, sound_bounds, all_up_to, rising, rising_from}
 use Rattle.params.specs.declared.WindowGroup.TheVariants.{Missing}
 use Rattle.rowsearch.specs.Suppression.{keep, keep_all}

@@ -1,1 +1,2 @@
 // What holds of the peaks of a grid: definitions and laws alone (specs/, proofs/).
+#![tactic(auto)]
