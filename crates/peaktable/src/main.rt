@@ -1,5 +1,7 @@
 // Reads RFC 4180 lines from standard input, parameters first and then rows of readings, and prints the table of their mobility
 // peaks to standard output. It holds a line at a time. What lies between a read and a write is `tablejob`: here are the calls.
+#![tactic(auto)]
+
 mod say;
 
 ghost use Rattle.std.specs.Prelude.{◌≡◌, true, List, ℕ, ◌≤◌, ◌<◌, ◌+◌, length, take};
@@ -8,53 +10,55 @@ ghost use Rattle.linefault.specs.Faults.{refused_at_end};
 ghost use Rattle.tablejob.specs.Stands.{Ends};
 ghost use Rattle.peaktable.specs.Reads.{bytes_of};
 
-use libc::{STDIN_FILENO, STDOUT_FILENO};
 use linefault::Fault;
+use std::io::{ErrorKind, Read, Stdin};
 use tablejob::inner::Job;
 
 // What reading gives: bytes behind those that are there, the end of the input, or a failure.
-#[derive(Drop)]
+#[derive(Clone, Copy)]
 enum More {
     Bytes(usize),
     End,
     Failed,
 }
 
-fn more_bytes(buf: &mut [u8], have: usize) -> More
+fn more_bytes(input: &mut Stdin, buf: &mut [u8], have: usize) -> More
     requires { have < length buf.old }
     ensures buf_unchanged { take have buf.new ≡ take have buf.old }
     ensures result_in_bounds { have + bytes_of result ≤ length buf.old }
 {
-    let got = libc::read(STDIN_FILENO, &mut buf[have..]);
-    if got < 0 {
+    let Ok(k) = input.read(&mut buf[have..]) else {
         return More::Failed;
-    }
-    if got == 0 {
+    };
+    if k == 0 {
         return More::End;
     }
-    More::Bytes(io::count(got, &buf[have..]))
+    More::Bytes(k)
 }
 
 // Writes the text that waits; a word on standard error where it cannot be written.
-fn written(out: &[u8], n: usize) -> bool
+fn written(rt: &(impl Print + Eprint), out: &[u8], n: usize) -> bool
     requires { n ≤ length out.now }
 {
-    if io::write_all(STDOUT_FILENO, &out[..n]) {
+    let Err(e) = rt.write_all(&out[..n]) else {
         return true;
+    };
+    match e.kind() {
+        ErrorKind::BrokenPipe => say::reader_gone(rt),
+        _ => say::cannot_write(rt),
     }
-    say::cannot_write();
     false
 }
 
 // Writes the end of the table of all that was read, after a word on standard error where it is a refusal.
-fn finish(j: Job, f: Fault, out: &[u8])
+fn finish(rt: &(impl Print + Eprint), j: Job, f: Fault, out: &[u8])
     requires { (j.waiting ≤ length out.now) × ((input : List ℕ) × (gone : List ℕ) × Ends input gone out.now j) }
 {
     let progress = j.progress;
     if f.bad {
-        say::refused(progress, f);
+        say::refused(rt, progress, f);
     }
-    written(out, j.waiting);
+    written(rt, out, j.waiting);
 }
 
 // The fault of the line that ended the table, whatever comes behind it.
@@ -78,15 +82,21 @@ fn fault_at_end(j: Job, buf: &[u8]) -> Fault
 }
 
 // Writes what waits where reading failed: the refusal behind it.
-fn give_up(j: Job, out: &mut [u8])
+fn give_up(rt: &(impl Print + Eprint), j: Job, out: &mut [u8])
     requires { j.waiting + line_room ≤ length out.old }
 {
     let r = tablejob::inner::refused(j, out);
-    say::cannot_read();
-    written(out, r.waiting);
+    say::cannot_read(rt);
+    written(rt, out, r.waiting);
 }
 
-fn run(buf: &mut [u8], row: &mut [f32], out: &mut [u8])
+fn run(
+    rt: &(impl Print + Eprint),
+    input: &mut Stdin,
+    buf: &mut [u8],
+    row: &mut [f32],
+    out: &mut [u8],
+)
     requires { (max_line < length buf.old) × (max_fields ≤ length row.old) × (line_room ≤ length out.old) }
 {
     let mut job = tablejob::inner::start();
@@ -96,16 +106,16 @@ fn run(buf: &mut [u8], row: &mut [f32], out: &mut [u8])
         job = tablejob::inner::work(job, buf, row, out);
         if !job.goes_on {
             let fault = fault_behind(job, buf);
-            finish(job, fault, out);
+            finish(rt, job, fault, out);
             return;
         }
         if out.len() - job.waiting < table::LINE_ROOM {
-            if !written(out, job.waiting) {
+            if !written(rt, out, job.waiting) {
                 return;
             }
             job = tablejob::inner::handed_over(job);
         } else {
-            let more = more_bytes(buf, job.have);
+            let more = more_bytes(input, buf, job.have);
             match more {
                 More::Bytes(k) => {
                     job = tablejob::inner::with_bytes(job, k);
@@ -113,22 +123,22 @@ fn run(buf: &mut [u8], row: &mut [f32], out: &mut [u8])
                 More::End => {
                     let fault = fault_at_end(job, buf);
                     job = tablejob::inner::ended(job, buf, row, out);
-                    finish(job, fault, out);
+                    finish(rt, job, fault, out);
                     return;
                 }
                 More::Failed => {
-                    give_up(job, out);
+                    give_up(rt, job, out);
                     return;
                 }
             }
         }
     }
-    say::cannot_read();
+    say::cannot_read(rt);
 }
 
-fn main() {
-    let mut buf = io::large_buffer();
+fn main(rt: HostRuntime) {
+    let mut buf = [0u8; 65536];
     let mut row = [0f32; table::MAX_FIELDS];
     let mut out = [0u8; 262144];
-    run(&mut buf, &mut row, &mut out);
+    run(&rt, &mut rt.stdin(), &mut buf, &mut row, &mut out);
 }

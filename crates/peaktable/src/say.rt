@@ -1,15 +1,14 @@
 // Words on standard error, for people: the first one of a line tells what the program installed as `peaktable` answers as its exit
 // status (docs/TABLE.md).
-use libc::STDERR_FILENO;
 use linefault::{Fault, What};
 use table::Progress;
 
-fn say(text: &[u8]) {
-    io::write_all(STDERR_FILENO, text);
+fn say(rt: &impl Eprint, text: &str) {
+    let _ = rt.eprint(text);
 }
 
-fn say_number(n: u64) {
-    io::print_decimal(STDERR_FILENO, n);
+fn say_number(rt: &impl Eprint, n: u64) {
+    let _ = rt.eprint(n);
 }
 
 // The input line that comes next: the rows count from the second line on.
@@ -35,78 +34,84 @@ fn is_first(s: Progress) -> bool {
     }
 }
 
-fn say_byte(b: u8) {
+fn say_byte(rt: &impl Eprint, b: u8) {
     if b == 13 {
-        say(b"a CR that no LF follows");
+        say(rt, "a CR that no LF follows");
         return;
     }
-    say(b"byte ");
-    say_number(b as u64);
+    say(rt, "byte ");
+    say_number(rt, b as u64);
     if (33 <= b) & (b <= 126) {
-        let one = [b];
-        say(b" (");
-        say(&one);
-        say(b")");
+        say(rt, " (");
+        let _ = rt.eprint(char::from(b));
+        say(rt, ")");
     }
-    say(b" is neither a digit nor a comma");
+    say(rt, " is neither a digit nor a comma");
 }
 
-fn say_field(f: Fault, text: &[u8]) {
-    say(b"field ");
-    say_number(f.field as u64);
-    say(text);
+fn say_field(rt: &impl Eprint, f: Fault, text: &str) {
+    say(rt, "field ");
+    say_number(rt, f.field as u64);
+    say(rt, text);
 }
 
-fn say_fault(s: Progress, f: Fault) {
+fn say_fault(rt: &impl Eprint, s: Progress, f: Fault) {
     let what = f.what;
     match what {
-        What::Nothing => say(b"it is not as docs/INPUT.md has it"),
-        What::NoLine => say(b"there is no first line"),
-        What::NoEnd => say(b"it has no end within 65536 bytes"),
-        What::BareLf => say(b"it ends in LF alone, not in CR LF"),
-        What::Blank => say(b"it is blank"),
+        What::Nothing => say(rt, "it is not as docs/INPUT.md has it"),
+        What::NoLine => say(rt, "there is no first line"),
+        What::NoEnd => say(rt, "it has no end within 65536 bytes"),
+        What::BareLf => say(rt, "it ends in LF alone, not in CR LF"),
+        What::Blank => say(rt, "it is blank"),
         What::OtherByte => {
-            say(b"column ");
-            say_number(f.column as u64);
-            say(b": ");
-            say_byte(f.byte);
+            say(rt, "column ");
+            say_number(rt, f.column as u64);
+            say(rt, ": ");
+            say_byte(rt, f.byte);
         }
-        What::EmptyField => say_field(f, b" is empty"),
-        What::Digits => say_field(f, b" has more than 8 digits"),
+        What::EmptyField => say_field(rt, f, " is empty"),
+        What::Digits => say_field(rt, f, " has more than 8 digits"),
         What::TooHigh => {
-            say_field(f, b" is above ");
-            say_number(linefault::limit_of(is_first(s), f.field) as u64);
+            say_field(rt, f, " is above ");
+            say_number(rt, linefault::limit_of(is_first(s), f.field) as u64);
         }
         What::NotThree => {
-            say_number(f.field as u64);
-            say(b" fields, not 3 (floor, least distance, least width)");
+            say_number(rt, f.field as u64);
+            say(rt, " fields, not 3 (floor, least distance, least width)");
         }
         What::ManyFields => {
-            say_number(f.field as u64);
-            say(b" fields, above 4096");
+            say_number(rt, f.field as u64);
+            say(rt, " fields, above 4096");
         }
         What::OtherCount => {
-            say_number(f.field as u64);
-            say(b" fields, the rows before have ");
-            say_number(fields_before(s));
+            say_number(rt, f.field as u64);
+            say(rt, " fields, the rows before have ");
+            say_number(rt, fields_before(s));
         }
-        What::ManyRows => say(b"a row past 4194304"),
+        What::ManyRows => say(rt, "a row past 4194304"),
     }
 }
 
 // Which input line is refused, and why.
-pub(crate) fn refused(s: Progress, f: Fault) {
-    say(b"peaktable: refused, input line ");
-    say_number(line_number(s));
-    say(b": ");
-    say_fault(s, f);
-    say(b"\n");
+pub(crate) fn refused(rt: &impl Eprint, s: Progress, f: Fault) {
+    say(rt, "peaktable: refused, input line ");
+    say_number(rt, line_number(s));
+    say(rt, ": ");
+    say_fault(rt, s, f);
+    say(rt, "\n");
 }
 
-pub(crate) fn cannot_read() {
-    say(b"peaktable: failed, the input cannot be read\n");
+pub(crate) fn cannot_read(rt: &impl Eprint) {
+    say(rt, "peaktable: failed, the input cannot be read\n");
 }
 
-pub(crate) fn cannot_write() {
-    say(b"peaktable: failed, the table cannot be written\n");
+pub(crate) fn cannot_write(rt: &impl Eprint) {
+    say(rt, "peaktable: failed, the table cannot be written\n");
+}
+
+pub(crate) fn reader_gone(rt: &impl Eprint) {
+    say(
+        rt,
+        "peaktable: failed, the table cannot be written: its reader closed the pipe\n",
+    );
 }
