@@ -1,5 +1,7 @@
 // C entries over inner steps, for the comparison with the Rust (oracle/) and the replay of stored answers. They are no part of
 // what is sold.
+#![tactic(auto)]
+
 ghost use Rattle.std.specs.Prelude.{◌≡◌, cond, ◌&&◌, length, pos};
 ghost use Rattle.std.specs.Float.{binary32};
 ghost use Rattle.std.specs.Float.Ieee.{of_int, of_bits, to_bits};
