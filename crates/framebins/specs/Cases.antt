@@ -1,5 +1,5 @@
 -- Worked cases, each by computation; they need not be read to know what is promised.
-use Rattle.std.specs.Prelude.{◌≡◌, refl, List, [], ◌∷◌, ℕ}
+use Rattle.std.specs.Prelude.{◌≡◌, refl, [], ◌∷◌}
 use Rattle.digits.specs.Sorted.{lex_lt, inserted, sorted_by, up_to}
 use Rattle.tof.specs.declared.TofScale.{TofScale}
 use Rattle.framebins.specs.FrameBins.{bin_or_none, point_bins, kept_to, places_of, distinct_to, firsts_to, view_bins, view_offsets, view_scans}
