@@ -4,7 +4,7 @@ ghost use Rattle.framesums.specs.Steps.{index_of};
 ghost use Rattle.marginals.specs.Marginals.{sound_ranges, marginal_number};
 
 // Frames, bins and scans, ends included.
-#[derive(Drop)]
+#[derive(Clone, Copy)]
 pub struct Block {
     pub rt_lo: u32,
     pub rt_hi: u32,

@@ -1,4 +1,6 @@
 // Marginals: the readings of a block of an index, summed by frame or by scan.
+#![tactic(auto)]
+
 pub mod inner;
 
 ghost use Rattle.framesums.specs.Steps.{index_of};
@@ -8,7 +10,7 @@ use framesums::inner::Window;
 use inner::Block;
 
 // How many sums stand at the front of `out`, or the number that applies.
-#[derive(Drop)]
+#[derive(Clone, Copy)]
 pub enum MarginalAnswer {
     Filled(usize),
     Refused(u32),
