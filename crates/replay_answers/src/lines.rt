@@ -6,7 +6,7 @@ pub(crate) const ROOM: usize = 4096;
 
 // An answer: the place in the line where it starts, its first words and how many there are, and how many more stand in the lent
 // list or in the smoothed row. The scratch may have changed in front of a place.
-#[derive(Drop)]
+#[derive(Clone, Copy)]
 pub(crate) struct Answer {
     pub at: usize,
     pub head: usize,
