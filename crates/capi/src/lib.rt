@@ -1,4 +1,6 @@
 // Grid detection as a C function on numbers and byte slices; stitching stands in a module of its own.
+#![tactic(auto)]
+
 pub mod stitching;
 
 ghost use Rattle.std.specs.Prelude.{◌≡◌, ◌/◌, length};
