@@ -1,19 +1,17 @@
 -- Bounds on results. A finite binary32 value is a whole number of units of 2 ^ -149, the smallest one: its `mag`. A sum, difference,
 -- product or quotient of values with a clear sign rounds a fraction, and stays at or below each limit that the fraction
 -- does not pass and that needs no rounding itself.
-use Rattle.std.proofs.Common.{◌≡◌, ℕ, zero, suc, ◌+◌, ◌-◌, ◌*◌, ◌/◌, ◌%◌, ◌^◌, ◌<◌, ◌≤◌, Bool, true, false, cond, not, ◌&&◌, ◌||◌, T, eqb, ltb, leb, List, [], ◌∷◌, length, ℤ, pos, negsuc, sym, refl, ap, ◌∙◌, subst, ap₂, inl, inr, zero-le, le_trans, le_of_eq, lt_of_lt_of_le, le-add_right, lt_of_le_of_lt, le_of_lt, add-le-add, mul-le-mul_right, zero-lt-suc, mul_assoc, mul_comm, add-mul, lt_of_mul-lt-mul_right, mul-le-mul_left, mul-lt-mul_of_pos_right, mul-pos, zero-mul, mul-one, mul_right_comm, le_of_mul-le-mul_right, mul-div_cancel, mul_left_comm, le-add_left, arith, lit<, lit≤, ltb→lt, leb→le, pow_pos, pow_mono, pow-add, shl_lt, ltb-false, ltb-true, le-ltb, lt-ltb, le-leb, leb-true}
-use mathlib.Core.Bool.{beq}
+use Rattle.std.proofs.Common.{◌≡◌, ℕ, zero, suc, ◌+◌, ◌-◌, ◌*◌, ◌/◌, ◌%◌, ◌^◌, ◌<◌, ◌≤◌, Bool, true, false, cond, not, ◌&&◌, ◌||◌, T, eqb, ltb, leb, List, [], ◌∷◌, length, ℤ, pos, negsuc, sym, refl, ap, ◌∙◌, subst, ap₂, le_trans, le_of_eq, lt_of_lt_of_le, le-add_right, le_of_lt, add-le-add, mul-le-mul_right, zero-lt-suc, mul_assoc, mul_comm, add-mul, lt_of_mul-lt-mul_right, mul-lt-mul_of_pos_right, mul-pos, zero-mul, mul-one, mul_right_comm, le_of_mul-le-mul_right, mul-div_cancel, mul_left_comm, le-add_left, arith, lit<, lit≤, ltb→lt, leb→le, pow_pos, pow_mono, pow-add, shl_lt, ltb-false, ltb-true, le-ltb, le-leb, leb-true}
 use native.Mathlib.Nat.{mul-mul-mul_comm, mul-sub, eq_of_mul-eq-mul_right}
 use lib.Pow.{pow-lt}
 use lib.Ieee.{Float, nan, inf, fin, binary32, low, emax, up, down, size, lt, le, eq, to_bits, of_bits, of_int, fits, odd, units, round, sum, add, sub, mul, div}
-use lib.Ieee.Digits.{size-lt}
 use lib.Ieee.Fits.{and_l, and_r, down_pos, round-fits, round_is}
 use lib.Ieee.Exact.{HasValue, round_exact}
 use lib.Ieee.Order.{round_mono}
 use lib.Ieee.Scale.{finite, round_same, round_val, round_under, grid, grid_scale, normal_of_fraction}
 use lib.Ieee.Bits.{nan_bits_is, to_bits-of_bits, of_bits-fits}
 use lib.Ieee.Positive.{num, den, den_pos, value→cross}
-use Rattle.numeric.specs.Arith.{◌⊕◌, ◌⊖◌, ◌⊗◌, ◌⊘◌, 𝟎, 𝟏, index_f, at}
+use Rattle.numeric.specs.Arith.{◌⊕◌, ◌⊖◌, ◌⊗◌, ◌⊘◌, 𝟎, 𝟏, at}
 use Rattle.numeric.specs.Numeric.{in_range, all_in_range}
 use Rattle.numeric.specs.Plain.{Plain}
 use Rattle.refusal.proofs.Bools.{clash}

@@ -1,4 +1,6 @@
 // Helpers on f32, as Rust has them: total, every operation rounded once.
+#![tactic(auto)]
+
 pub mod inner;
 
 ghost use Rattle.std.specs.Prelude.{◌≡◌, pos, from_bits, to_bits};

@@ -3,8 +3,7 @@ use lib.Ieee.{Float, lt, le, is_nan, of_bits}
 use Rattle.numeric.specs.Arith.{𝟏}
 use Rattle.numeric.specs.Numeric.{max_f}
 use Rattle.numeric.proofs.Order.{not-le, max-above}
-use Rattle.numeric.proofs.at_least_one.Statement.{statement}
-use Rattle.numeric.proofs.at_least_one.Tie as tie
+use Rattle.numeric.proofs.at_least_one.Goals as goal
 
 one-is-number : is_nan 𝟏 ≡ false
 unfolding is_nan of_bits
@@ -18,11 +17,8 @@ low u h = go (is_nan u) refl
     go true e = refl
     go false e = rw (not-le 𝟏 u one-is-number e h)
 
-returns : tie.Need-returns
-returns c = sym (max-above c.before.args.x 𝟏 c.if1.true)
+pub returns-then-x : goal.returns-then-x
+returns-then-x c = sym (max-above c.args.x 𝟏 c.if-x.true)
 
-returns-2 : tie.Need-returns-2
-returns-2 c = low c.before.args.x c.if1.false
-
-pub at-least-one-spec : {M : Type 1} → statement M
-at-least-one-spec = tie.close (tie.spec returns returns-2)
+pub returns-else-x : goal.returns-else-x
+returns-else-x c = low c.args.x c.if-x.false
