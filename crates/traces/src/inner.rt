@@ -7,7 +7,7 @@ ghost use Rattle.traces.specs.Traces.{sound_scans, sound_axes, row_asks, bounds_
 use tof::TofScale;
 
 // TOF bounds, the bins to take on either side of theirs, and scans.
-#[derive(Drop)]
+#[derive(Clone, Copy)]
 pub struct Bounds {
     pub tof_lo: u32,
     pub tof_hi: u32,

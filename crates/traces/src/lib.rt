@@ -1,4 +1,6 @@
 // Retention traces of mobility peaks: the readings of a window of an index, summed by frame, over all frames.
+#![tactic(auto)]
+
 pub mod inner;
 
 ghost use Rattle.framesums.specs.Steps.{index_of};
@@ -7,7 +9,7 @@ ghost use Rattle.traces.specs.Traces.{RowAnswered, bounds_of, BoundsAnswered};
 use tof::TofScale;
 
 // How many sums stand at the front of `out`, one a frame, or the number that applies.
-#[derive(Drop)]
+#[derive(Clone, Copy)]
 pub enum TraceAnswer {
     Trace(usize),
     Refused(u32),
