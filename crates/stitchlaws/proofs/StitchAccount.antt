@@ -17,7 +17,7 @@ use Rattle.passes.proofs.Account.{left-account}
 use Rattle.stitch.specs.declared.StitchAnswer.{StitchAnswer}
 use Rattle.stitch.specs.declared.StitchAnswer.TheVariants.{Stitched, Refused}
 use Rattle.stitch.specs.StitchNumber.{count_in, peaks_in}
-use Rattle.stitch.specs.Answer.{Lent, rooms_of, number_for, Written, Answered}
+use Rattle.stitch.specs.Answer.{Lent, rooms_of, number_for, Written}
 use Rattle.stitch.proofs.StitchNumberLaws.{number-under, stitch-which}
 use Rattle.stitch.proofs.Laws.{accepted}
 use Rattle.capi.specs.Entry.{entry_answer}

@@ -1,19 +1,17 @@
 -- A worked case, which need not be read to know what is promised: a list of three peaks that is accepted, and of which two are merged.
-use Rattle.std.specs.Prelude.{◌≡◌, refl, true, List, [], ◌∷◌, ◌++◌, ℕ, length}
-use Rattle.std.proofs.Common.{ap, ◌∙◌}
+use Rattle.std.specs.Prelude.{◌≡◌, refl, true, List, [], ◌∷◌, ℕ, length}
+use Rattle.std.proofs.Common.{ap}
 use Rattle.std.specs.Float.Ieee.{lt, le, of_bits, to_bits, of_int}
 use Rattle.refusal.specs.Refusal.{first_of}
 use Rattle.numeric.specs.Numeric.{in_range}
 use Rattle.record.specs.Record.{peak_from, sound, sound_tof, sound_frames, sound_options, sound_scans, sound_shape, all_sound}
-use Rattle.record.specs.declared.ImPeak1D.{ImPeak1D}
 use Rattle.peaklist.specs.PeakList.{peaks_of, list_words}
-use Rattle.digits.specs.Sorted.{up_to}
 use Rattle.matching.specs.Cases.{asked}
 use Rattle.matching.specs.Matching.{sound_stitch}
 use Rattle.distinct.specs.Distinct.{is_in, distinct}
 use Rattle.grouping.specs.Grouping.{group_peaks}
 use Rattle.grouping.specs.Cases.{three}
-use Rattle.passes.specs.Stitching.{first_peaks, stitched, owners_of}
+use Rattle.passes.specs.Stitching.{first_peaks, stitched}
 use Rattle.passes.specs.Cases.{second-groups, owners}
 use Rattle.stitch.specs.declared.StitchAnswer.{StitchAnswer}
 use Rattle.stitch.specs.declared.StitchAnswer.TheVariants.{Stitched}
