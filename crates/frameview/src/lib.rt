@@ -1,4 +1,6 @@
 // The points of a frame as its part of an index.
+#![tactic(auto)]
+
 pub mod numbers;
 
 ghost use Rattle.std.specs.Prelude.{◌≡◌, ◌-◌, length};
@@ -10,7 +12,7 @@ use numbers::{Room, Seen};
 use tof::TofScale;
 
 // How many bins and points a frame has in an index, or the number that applies.
-#[derive(Drop)]
+#[derive(Clone, Copy)]
 pub enum ViewAnswer {
     Built(usize, usize),
     Refused(u32),

@@ -8,7 +8,7 @@ ghost use Rattle.frameview.specs.ViewNumber.{checks_of, narrow, short};
 use tof::TofScale;
 
 // What reading the lists of a frame's points shows: how long they are, and whether what they hold is in range.
-#[derive(Drop)]
+#[derive(Clone, Copy)]
 pub struct Seen {
     pub tofs: usize,
     pub scans: usize,
@@ -19,7 +19,7 @@ pub struct Seen {
 }
 
 // The lengths of the lent lists.
-#[derive(Drop)]
+#[derive(Clone, Copy)]
 pub struct Room {
     pub bins: usize,
     pub offsets: usize,
