@@ -1,5 +1,7 @@
 // Replays stored answers of the Rust to lists to stitch, through the C entry. Standard input has a line for each: the call and its
 // answer, as hexadecimal words with one space between (specs/Replay.antt). A line that starts with '#' is passed over.
+#![tactic(auto)]
+
 mod calls;
 mod words;
 
@@ -10,9 +12,10 @@ ghost use Rattle.replay_stitching.specs.Replay.{agrees};
 ghost use Rattle.replay_stitching.specs.Steps.{replay_of};
 
 use hexlines::{Reading, Tally};
+use std::io::Read;
 
 // What has been read, and what has been counted.
-#[derive(Drop)]
+#[derive(Clone, Copy)]
 struct State {
     reading: Reading,
     tally: Tally,
@@ -47,7 +50,7 @@ fn feed_all(line: &mut [u32], s: State, bytes: &[u8]) -> State
     now
 }
 
-fn main() {
+fn main(rt: HostRuntime) {
     let mut line = [0u32; words::ROOM];
     let mut s = State {
         reading: hexlines::start(),
@@ -56,20 +59,20 @@ fn main() {
             differ: 0,
         },
     };
-    let mut buf = io::large_buffer();
+    let mut buf = [0u8; 65536];
+    let mut input = rt.stdin();
     let mut turns = u64::MAX;
     while turns > 0 {
         turns -= 1;
-        let got = libc::read(0, &mut buf);
-        if got <= 0 {
+        let Ok(k) = input.read(&mut buf) else {
+            break;
+        };
+        if k == 0 {
             break;
         }
-        let k = io::count(got, &buf);
         s = feed_all(&mut line, s, &buf[..k]);
     }
-    let t = s.tally;
-    io::print_decimal(1, t.lines);
-    io::write_all(1, b" answers replayed, ");
-    io::print_decimal(1, t.differ);
-    io::write_all(1, b" differ\n");
+    let lines = s.tally.lines;
+    let differ = s.tally.differ;
+    let _ = println!(rt; "{lines} answers replayed, {differ} differ");
 }
