@@ -1,5 +1,5 @@
 -- What the steps ask of an apex.
-use Rattle.std.specs.Prelude.{◌≡◌, List, ℕ, ◌+◌, ◌≤◌, ◌<◌, length, Float}
+use Rattle.std.specs.Prelude.{◌≡◌, List, ◌+◌, ◌≤◌, ◌<◌, length, Float}
 use Rattle.limits.specs.Limits.{exact_index}
 use Rattle.rowsearch.specs.Found.{measured_of}
 use Rattle.rowsearch.specs.declared.inner.Measured.{Measured}

@@ -8,7 +8,7 @@ use rowsearch::inner::Measured;
 use rtrecord::{RtApex, RtLocalPeak};
 
 // When an apex starts and ends, and how long it lasts.
-#[derive(Drop)]
+#[derive(Clone, Copy)]
 pub struct Seconds {
     pub left: f32,
     pub right: f32,
