@@ -1,4 +1,6 @@
 // The retention traces of many mobility peaks over one index, which is looked through once.
+#![tactic(auto)]
+
 pub mod inner;
 pub mod numbers;
 
@@ -10,7 +12,7 @@ use record::ImPeak1D;
 use tof::TofScale;
 
 // How many traces stand one after another at the front of `out`, or the number that applies.
-#[derive(Drop)]
+#[derive(Clone, Copy)]
 pub enum TracesAnswer {
     Traces(usize),
     Refused(u32),

@@ -8,7 +8,7 @@ use record::ImPeak1D;
 use tof::TofScale;
 
 // The lengths of the lists that are lent.
-#[derive(Drop)]
+#[derive(Clone, Copy)]
 pub struct Rooms {
     pub out: usize,
     pub windows: usize,
