@@ -1,12 +1,11 @@
 -- The account of every apex of a ranked order, and the steps of the choice.
-use mathlib.Core.Path.{◌≡◌, refl, sym, ap, subst, ◌∙◌}
+use mathlib.Core.Path.{◌≡◌, refl, sym, ap, ◌∙◌}
 use mathlib.Core.Bool.{Bool, true, false, cond}
 use mathlib.Core.List.{List, [], ◌∷◌, ◌++◌, append_assoc, append-nil}
 use mathlib.Core.List.Memᴰ
-use mathlib.Core.List.{Memᴰ}
 use mathlib.Core.List.Memᴰ.{head as here}
 use mathlib.Core.List.Memᴰ.{tail as there}
-use mathlib.Core.Logic.{◌⊎◌, inl, inr, ⊎_elim, ◌↔◌, ◌≢◌}
+use mathlib.Core.Logic.{◌⊎◌, inl, inr, ⊎_elim, ◌≢◌}
 use Prim.Native.Nat.{ℕ, suc, ◌+◌, ◌≤◌, ◌<◌}
 use native.Mathlib.Omega.{arith}
 use lib.ListN.{length, get_or, take, length-append}
@@ -257,7 +256,7 @@ two_ways R (k ∷ l) e i j m n d = go (two_ways R l e.1 i j) (Memᴰ.cases_cons 
     go f (inr m) (inl q) = inr (rw q (e.0 i m))
     go f (inr m) (inr n) = f m n d
 
-module _ (near no_lower : ℕ → ℕ → Bool) (share : ℕ → Bool) (order : List ℕ) (ranked : Ranked near no_lower order) where
+module _ (near is_no_lower : ℕ → ℕ → Bool) (share : ℕ → Bool) (order : List ℕ) (ranked : Ranked near is_no_lower order) where
   some : All (λ i. i ∈ order) (chosen near order)
   some = chosen-all near (λ i. i ∈ order) order (λ i m. m)
 
@@ -267,20 +266,20 @@ module _ (near no_lower : ℕ → ℕ → Bool) (share : ℕ → Bool) (order : 
       (two_ways (λ i j. near j i ≡ false) (chosen near order) (choose_all-far near [] order tt) i j m n d)
 
   -- i is chosen, or gives way to one that is
-  met : (i : ℕ) → i ∈ order → (i ∈ chosen near order) ⊎ GivesWay near no_lower (chosen near order) i
+  met : (i : ℕ) → i ∈ order → (i ∈ chosen near order) ⊎ GivesWay near is_no_lower (chosen near order) i
   met i m =
       ⊎_elim inl
       (λ r. inr (record { to = r.0; among = r.1; other = r.2.0; no_lower = r.2.1; close = r.3 }))
-      (choose_all-met near (λ k j. (k ≢ j) × (no_lower j k ≡ true)) [] order (all_none (λ k. All (λ j. (k ≢ j) × (no_lower j k ≡ true)) order)) both i m)
+      (choose_all-met near (λ k j. (k ≢ j) × (is_no_lower j k ≡ true)) [] order (all_none (λ k. All (λ j. (k ≢ j) × (is_no_lower j k ≡ true)) order)) both i m)
     where
-      pair : (l : List ℕ) → Distinct l → Each (λ i j. no_lower j i ≡ true) l → Each (λ k j. (k ≢ j) × (no_lower j k ≡ true)) l
+      pair : (l : List ℕ) → Distinct l → Each (λ i j. is_no_lower j i ≡ true) l → Each (λ k j. (k ≢ j) × (is_no_lower j k ≡ true)) l
       pair [] d h = tt
       pair (k ∷ l) d h = (λ j n. (d.0 j n, h.0 j n), pair l d.1 h.1)
 
-      both : Each (λ k j. (k ≢ j) × (no_lower j k ≡ true)) order
+      both : Each (λ k j. (k ≢ j) × (is_no_lower j k ≡ true)) order
       both = pair order ranked.distinct ranked.higher-first
 
-  all-met : Accounted near no_lower share order
+  all-met : Accounted near is_no_lower share order
   all-met =
       record {
         chosen-some = some;
@@ -291,16 +290,16 @@ module _ (near no_lower : ℕ → ℕ → Bool) (share : ℕ → Bool) (order : 
         missing = λ i m. (why i m, why-not i);
       }
     where
-      why : (i : ℕ) → i ∈ order → (i ∈ listed near share order → ⊥) → GivesWay near no_lower (chosen near order) i ⊎ (share i ≡ false)
+      why : (i : ℕ) → i ∈ order → (i ∈ listed near share order → ⊥) → GivesWay near is_no_lower (chosen near order) i ⊎ (share i ≡ false)
       why i m out = ⊎_elim (λ c. inr (go (share i) refl c)) inl (met i m)
         where
           go : (b : Bool) → share i ≡ b → i ∈ chosen near order → share i ≡ false
           go true e c = absurd (out (passing-has share (chosen near order) i c e))
           go false e c = e
 
-      why-not : (i : ℕ) → GivesWay near no_lower (chosen near order) i ⊎ (share i ≡ false) → i ∈ listed near share order → ⊥
+      why-not : (i : ℕ) → GivesWay near is_no_lower (chosen near order) i ⊎ (share i ≡ false) → i ∈ listed near share order → ⊥
       why-not i (inl w) m = clash (near i w.to) w.close (apart i w.to (passing-are share (chosen near order) i m).0 w.among (λ e. w.other (sym e)))
       why-not i (inr h) m = clash (share i) (passing-are share (chosen near order) i m).1 h
 
 pub account : AllAccounted
-account near no_lower share order ranked = all-met near no_lower share order ranked
+account near is_no_lower share order ranked = all-met near is_no_lower share order ranked

@@ -1,13 +1,12 @@
 -- Apexes that are known by their places in a table: what is made of the places is made of the apexes.
-use mathlib.Core.Path.{◌≡◌, refl, sym, ◌∙◌, ap}
+use mathlib.Core.Path.{◌≡◌, refl, ◌∙◌, ap}
 use mathlib.Core.Bool.{Bool, true, false, cond}
-use mathlib.Core.List.{List, [], ◌∷◌, ◌++◌, map, Memᴰ}
+use mathlib.Core.List.{List, [], ◌∷◌, ◌++◌, map}
 use mathlib.Core.List.Memᴰ.{head as here}
-use mathlib.Core.List.Memᴰ.{tail as there}
 use Prim.Native.Nat.{ℕ}
 use Rattle.digits.specs.Sorted.{lex_lt, inserted, sorted_by}
 use Rattle.digits.proofs.SortedLaws.{sort-given}
-use Rattle.rowsearch.specs.Account.{◌∈◌, All}
+use Rattle.rowsearch.specs.Account.{All}
 use Rattle.chosen.specs.Chosen.{Each, near_any, choose, choose_all, chosen, passing}
 use Rattle.chosen.specs.Ranking.{inserted_by, ordered_by}
 use Rattle.chosen.proofs.ChosenLaws.{all_tail, all_none, all_cons}

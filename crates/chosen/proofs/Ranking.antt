@@ -2,14 +2,14 @@
 use mathlib.Core.Path.{◌≡◌, refl, sym}
 use mathlib.Core.Bool.{Bool, true, false, cond}
 use mathlib.Core.List.Memᴰ
-use mathlib.Core.List.{List, [], ◌∷◌, Memᴰ}
+use mathlib.Core.List.{List, [], ◌∷◌}
 use mathlib.Core.List.Memᴰ.{head as here}
 use mathlib.Core.List.Memᴰ.{tail as there}
-use mathlib.Core.Logic.{◌⊎◌, inl, inr, ⊎_elim, ◌↔◌, ◌≢◌}
+use mathlib.Core.Logic.{⊎_elim, ◌↔◌, ◌≢◌}
 use Prim.Native.Nat.{ℕ}
 use Rattle.refusal.proofs.Bools.{clash}
 use Rattle.rowsearch.specs.Account.{◌∈◌, All}
-use Rattle.chosen.specs.Chosen.{Each, Distinct, Ranked}
+use Rattle.chosen.specs.Chosen.{Distinct}
 use Rattle.chosen.specs.Ranking.{before, inserted_by, ordered_by, InOrder, Strict, OrderedSame, OrderedDistinct, OrderedInOrder, BeforeStrict, OrderedRanked}
 use Rattle.chosen.proofs.ChosenLaws.{all_none, all_cons, all_tail, each-imp}
 
@@ -174,13 +174,13 @@ before-strict lower tie l s t = both-strict lower tie l s t
 -- ---- ranked
 
 pub ordered-ranked : OrderedRanked
-ordered-ranked near no_lower lower tie apexes d s t n b =
+ordered-ranked near is_no_lower lower tie apexes d s t n b =
     let first = before lower tie in
     let order = ordered_by first apexes in
     let old : (i : ℕ) → i ∈ order → i ∈ apexes = (λ i m. (ordered_same first apexes i).0 m) in
     record {
       distinct = ordered-distinct first apexes d;
-      higher-first = each-imp (λ i j. first j i ≡ false) (λ i j. no_lower j i ≡ true) order
+      higher-first = each-imp (λ i j. first j i ≡ false) (λ i j. is_no_lower j i ≡ true) order
           (λ i j m k h. n i (old i m) j (old j k) (not_lower lower tie i j h))
           (ordered-in-order first apexes (before-strict lower tie apexes s t));
       both_ways = λ i m j k. b i (old i m) j (old j k);

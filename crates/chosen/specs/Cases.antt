@@ -1,5 +1,5 @@
 -- Worked cases, by computation; they need not be read to know what is promised. On whole numbers: an apex has a height and an area, and two are near if their indices differ by less than 3.
-use Rattle.std.specs.Prelude.{◌≡◌, refl, Bool, true, false, cond, not, List, [], ◌∷◌, ℕ, ◌+◌, ◌-◌, ltb, eqb, get_or}
+use Rattle.std.specs.Prelude.{◌≡◌, refl, Bool, not, List, [], ◌∷◌, ℕ, ◌+◌, ◌-◌, ltb, eqb, get_or}
 use Rattle.chosen.specs.Chosen.{near_any, choose, choose_all, chosen, passing, listed}
 use Rattle.chosen.specs.Ranking.{before, inserted_by, ordered_by}
 

@@ -1,6 +1,6 @@
 -- Of apexes that lie close to one another only one is chosen, and of those chosen only some are listed: the definitions, and the
 -- account of every apex that is not listed. An apex is an index. Nothing is said here of what makes two apexes near, of heights
--- or of shares: these are given as `near`, `no_lower` and `share`.
+-- or of shares: these are given as `near`, `is_no_lower` and `share`.
 use Rattle.std.specs.Prelude.{◌≡◌, Bool, true, false, cond, List, [], ◌∷◌, ◌++◌, ◌⊎◌, ◌↔◌, ◌≢◌, ℕ}
 use Rattle.rowsearch.specs.Account.{◌∈◌, All}
 
@@ -46,32 +46,32 @@ listed near share order = passing share (chosen near order)
 
 -- ---- the account
 
--- What is asked of an order of apexes. `near i j`: i and j are near each other. `no_lower i j`: j is no lower than i.
-pub record Ranked (near no_lower : ℕ → ℕ → Bool) (order : List ℕ) : Type 0 where
+-- What is asked of an order of apexes. `near i j`: i and j are near each other. `is_no_lower i j`: j is no lower than i.
+pub record Ranked (near is_no_lower : ℕ → ℕ → Bool) (order : List ℕ) : Type 0 where
   pub distinct : Distinct order
-  pub higher-first : Each (λ i j. no_lower j i ≡ true) order
+  pub higher-first : Each (λ i j. is_no_lower j i ≡ true) order
   pub both_ways : All (λ i. All (λ j. near i j ≡ near j i) order) order
 
 -- the apex i is near another one of ks that is no lower
-pub record GivesWay (near no_lower : ℕ → ℕ → Bool) (ks : List ℕ) (i : ℕ) : Type 0 where
+pub record GivesWay (near is_no_lower : ℕ → ℕ → Bool) (ks : List ℕ) (i : ℕ) : Type 0 where
   pub to : ℕ
   pub among : to ∈ ks
   pub other : to ≢ i
-  pub no_lower : no_lower i to ≡ true
+  pub no_lower : is_no_lower i to ≡ true
   pub close : near i to ≡ true
 
 -- What holds of every ranked order: those chosen are distinct apexes of the order, no two near each
 -- other; those listed are distinct and are the chosen ones with the share; and an apex is missing from the list exactly if it
 -- is near another chosen one that is no lower, or lacks the share.
-pub record Accounted (near no_lower : ℕ → ℕ → Bool) (share : ℕ → Bool) (order : List ℕ) : Type 0 where
+pub record Accounted (near is_no_lower : ℕ → ℕ → Bool) (share : ℕ → Bool) (order : List ℕ) : Type 0 where
   pub chosen-some : All (λ i. i ∈ order) (chosen near order)
   pub chosen-distinct : Distinct (chosen near order)
   pub chosen-apart : (i j : ℕ) → i ∈ chosen near order → j ∈ chosen near order → i ≢ j → near i j ≡ false
   pub listed-distinct : Distinct (listed near share order)
   pub listed-are : (i : ℕ) → (i ∈ listed near share order) ↔ ((i ∈ chosen near order) × (share i ≡ true))
-  pub missing : (i : ℕ) → i ∈ order → (i ∈ listed near share order → ⊥) ↔ (GivesWay near no_lower (chosen near order) i ⊎ (share i ≡ false))
+  pub missing : (i : ℕ) → i ∈ order → (i ∈ listed near share order → ⊥) ↔ (GivesWay near is_no_lower (chosen near order) i ⊎ (share i ≡ false))
 
 -- every ranked order is accounted for: `account` in proofs/ChosenLaws.antt
 abbrev pub AllAccounted : Type 0
 AllAccounted =
-    (near no_lower : ℕ → ℕ → Bool) (share : ℕ → Bool) (order : List ℕ) → Ranked near no_lower order → Accounted near no_lower share order
+    (near is_no_lower : ℕ → ℕ → Bool) (share : ℕ → Bool) (order : List ℕ) → Ranked near is_no_lower order → Accounted near is_no_lower share order
