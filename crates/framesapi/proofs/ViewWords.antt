@@ -1,6 +1,6 @@
 -- The word of a frame's part of an index.
 use mathlib.Core.Path.{◌≡◌, refl, ap, ◌∙◌, subst}
-use Prim.Native.Nat.{ℕ, ◌*◌, ◌≤◌, ◌<◌, ◌^◌}
+use Prim.Native.Nat.{ℕ, ◌≤◌, ◌<◌, ◌^◌}
 use native.Mathlib.Omega.{arith}
 use lib.ListN.{length}
 use Rattle.limits.specs.Limits.{max_reading}
@@ -13,7 +13,7 @@ use Rattle.frameview.specs.Answer as view
 use Rattle.frameview.proofs.Laws.{accepted}
 use Rattle.frameview.proofs.ViewLaws.{view-which}
 use Rattle.framesapi.specs.Word.{word_of}
-use Rattle.framesapi.specs.View.{answer_to, bins_in, Answered, ViewTold}
+use Rattle.framesapi.specs.View.{bins_in, Answered, ViewTold}
 use Rattle.framesapi.proofs.Words.{below, first_below, word_fits, word-told}
 
 -- as many bins as points at most

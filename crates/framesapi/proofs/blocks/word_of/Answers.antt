@@ -1,0 +1,13 @@
+use mathlib.Core.Path.{refl}
+use Rattle.framesapi.specs.Word.{itself}
+use Rattle.framesapi.proofs.Words.{count_word, number_word, word_count}
+use Rattle.framesapi.proofs.blocks.word_of.Goals as goal
+
+pub overflow_mul-result : goal.overflow_mul-result
+overflow_mul-result c = record { fits = word_count itself c.in-Filled.n (rw c.in-Filled.is at c.requires) }
+
+pub returns-in-Filled : goal.returns-in-Filled
+returns-in-Filled c = rw c.in-Filled.is (count_word itself c.in-Filled.n _ refl)
+
+pub returns-in-Refused : goal.returns-in-Refused
+returns-in-Refused c = rw c.in-Refused.is (number_word itself _)
