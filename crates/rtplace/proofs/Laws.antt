@@ -1,13 +1,10 @@
 -- A place held to a trace is that of one of its frames.
 use mathlib.Core.Path.{◌≡◌, refl, sym, ap, ◌∙◌}
 use mathlib.Core.Bool.{Bool, true, false, cond}
-use mathlib.Core.List.{List}
 use Prim.Native.Nat.{ℕ, ◌≤◌, ◌<◌, ◌+◌, ◌-◌, ◌*◌, ◌/◌, zero-le}
 use native.Mathlib.Nat.{le_trans, le_of_eq, mul-one, mul_right_comm, le_of_mul-le-mul_right, div-lt_iff_lt-mul, add-mul, one-mul}
 use native.Mathlib.Omega.{arith}
 use borrow.Author.Tests.{ltb-false}
-use lib.Dec.{ltb}
-use lib.IntN.{ℤ, pos}
 use lib.Ieee.{Float, nan, inf, fin, binary32, lt, up, down, of_int, of_bits, round, to_unsigned}
 use lib.Ieee.Exact.{HasValue}
 use lib.Ieee.Back.{round_whole}
