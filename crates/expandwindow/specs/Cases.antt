@@ -1,7 +1,7 @@
 -- Worked cases, by computation; they need not be read to know what is promised.
-use Rattle.std.specs.Prelude.{◌≡◌, refl, List, [], ◌∷◌, map, ℕ, Float}
+use Rattle.std.specs.Prelude.{◌≡◌, refl, List, [], ◌∷◌, Float}
 use Rattle.std.specs.Float.{binary32}
-use Rattle.std.specs.Float.Ieee.{of_bits, to_bits, of_int, add, sub, neg, mul, div, lt, is_nan}
+use Rattle.std.specs.Float.Ieee.{of_bits, to_bits, of_int, add, sub, neg, div, lt, is_nan}
 use Rattle.numeric.specs.Arith.{½, 𝟐, index_f}
 use Rattle.numeric.specs.Numeric.{max_f, abs_f}
 use Rattle.rank.specs.Rank.{counted, first_at, ranked, rank_f, steps_from, steps}

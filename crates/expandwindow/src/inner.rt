@@ -8,7 +8,7 @@ use rtparams::RtExpandParams;
 use rtwindow::FrameWindow;
 
 // Frames by their places in the run, the first and the last, with the sigma of the smoothing over them; or none.
-#[derive(Drop)]
+#[derive(Clone, Copy)]
 pub enum RtWindow {
     Over(usize, usize, f32),
     Nowhere,

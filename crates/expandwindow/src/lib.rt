@@ -1,4 +1,6 @@
 // The first call of expansion: over which frames of the run a mobility peak is followed, and how wide its smoothing is there.
+#![tactic(auto)]
+
 pub mod inner;
 
 ghost use Rattle.std.specs.Prelude.{◌≡◌};
@@ -10,7 +12,7 @@ use inner::RtWindow;
 use record::ImPeak1D;
 use rtparams::RtExpandParams;
 
-#[derive(Drop)]
+#[derive(Clone, Copy)]
 pub enum WindowAnswer {
     Window(usize, usize, f32),
     NoWindow,
