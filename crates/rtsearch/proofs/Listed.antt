@@ -2,44 +2,44 @@
 use mathlib.Core.Path.{◌≡◌, refl, sym, ◌∙◌, ap, subst}
 use mathlib.Core.Bool.{Bool, true, false, cond}
 use mathlib.Core.List.Memᴰ
-use mathlib.Core.List.{List, [], ◌∷◌, ◌++◌, map, reverse, reverse-cons, reverse-reverse, Memᴰ}
+use mathlib.Core.List.{List, [], ◌∷◌, ◌++◌, map, reverse, reverse-cons, reverse-reverse}
 use mathlib.Core.List.Memᴰ.{head as here}
 use mathlib.Core.List.Memᴰ.{tail as there}
 use mathlib.Core.Logic.{⊎_elim}
-use Prim.Native.Nat.{ℕ, zero, suc, ◌+◌, ◌-◌, ◌*◌, ◌≤◌, ◌<◌}
+use Prim.Native.Nat.{ℕ, ◌-◌, ◌*◌, ◌≤◌, ◌<◌}
 use native.Mathlib.Omega.{arith}
 use native.Mathlib.Nat.{add-zero}
 use borrow.Author.Tests.{eqb-true, eqb-false, ltb-true, ltb-false, lt-ltb, le-ltb, leb-true}
-use lib.Dec.{eqb, ltb, leb}
-use lib.ListN.{length, get_or, take, length-map, length-reverse}
-use lib.Ieee.{Float, binary32, to_bits, lt}
+use lib.Dec.{eqb, ltb}
+use lib.ListN.{length, take, length-map, length-reverse}
+use lib.Ieee.{Float, binary32, to_bits}
 use Rattle.limits.specs.Limits.{any_number, exact_index}
 use Rattle.numeric.specs.Arith.{at, 𝟎}
-use Rattle.numeric.specs.Numeric.{max_f, in_range}
+use Rattle.numeric.specs.Numeric.{in_range}
 use Rattle.numeric.specs.Plain.{word, word_in, Plain, AllPlain}
 use Rattle.numeric.proofs.Patterns.{lt-bits}
 use Rattle.digits.specs.Sorted.{lex_lt, up_to, sorted_by}
 use Rattle.digits.proofs.SortedLaws.{sort-given, sort-length}
-use Rattle.digits.proofs.UpTo.{upto-lt, upto-length}
+use Rattle.digits.proofs.UpTo.{upto-lt}
 use Rattle.params.specs.Params.{most_peaks}
 use Rattle.rowsearch.specs.Account.{◌∈◌, All, Ascending, NoNan}
 use Rattle.rowsearch.specs.Qualifying.{highest_reading, reaches, qualifying, kept}
-use Rattle.rowsearch.specs.Found.{found_size, measured_of, measured_from, measured_at, FoundAt, Found, Standing, Done}
+use Rattle.rowsearch.specs.Found.{found_size, measured_of, measured_from, measured_at, FoundAt, Found, Done}
 use Rattle.rowsearch.specs.declared.inner.Measured.{Measured}
 use Rattle.rowsearch.proofs.Account.{all-kept}
 use Rattle.rowsearch.proofs.QualifyingLaws.{qualifying-ascend, qualifying-no-nan, kept-count}
-use Rattle.chosen.specs.Chosen.{Each, near_any, choose, choose_all, chosen, passing}
-use Rattle.chosen.specs.Ranking.{before, ordered_by, InOrder}
+use Rattle.chosen.specs.Chosen.{Each, choose_all, chosen, passing}
+use Rattle.chosen.specs.Ranking.{ordered_by}
 use Rattle.chosen.specs.Times.{near_in_time}
-use Rattle.chosen.proofs.ChosenLaws.{all_none, all_cons, all_tail, each-imp, chosen-each, passing-each, passing-are, chosen-all}
+use Rattle.chosen.proofs.ChosenLaws.{each-imp, chosen-each, passing-each, passing-are}
 use Rattle.chosen.proofs.Ranking.{ordered-in-order}
 use Rattle.chosen.proofs.Places.{map-passing, map-chosen, map-ordered}
-use Rattle.rtapex.specs.InTime.{apex_time, seconds_of, seconds, apex_area}
+use Rattle.rtapex.specs.InTime.{apex_time, apex_area}
 use Rattle.rtapex.specs.Steps.{Inside as Whole}
 use Rattle.rtapex.proofs.Laws.{left_is, right_is, area-is}
-use Rattle.rtplaces.specs.Shares.{trace_area, largest, best_area, meets_shares}
+use Rattle.rtplaces.specs.Shares.{trace_area, best_area}
 use Rattle.rtsearch.specs.Retention.{asks, is_wide, rt_qualifying, lower, by_index, higher_first, later, earlier_first, chosen_apexes, has_shares, listed_apexes}
-use Rattle.rtplaces.specs.Places.{index_at, area_at, Inside, wide, wide_at, height_word, time_at_place, by_height, by_time, chosen_places, shares_at, with_shares, listed_places}
+use Rattle.rtplaces.specs.Places.{index_at, area_at, wide, wide_at, height_word, time_at_place, by_height, by_time, chosen_places, shares_at, with_shares, listed_places}
 use Rattle.rtsearch.specs.Steps.{Stands, AllStand, RtFound}
 use Rattle.rtsearch.proofs.Orders.{higher-strict, first-decides}
 use Rattle.rtplaces.proofs.Laws.{largest-same, front_below, chosen-places, shares-places, chosen-places-few, shares-few, some_below, some-few}

@@ -5,12 +5,11 @@ use mathlib.Core.List.{List}
 use Prim.Native.Nat.{ℕ}
 use native.Mathlib.Omega.{arith}
 use borrow.Author.Tests.{ltb-true, ltb-false, le-ltb}
-use lib.Dec.{ltb}
 use lib.Ieee.{Float, lt, is_nan}
 use Rattle.numeric.specs.Arith.{at}
 use Rattle.numeric.specs.Plain.{word}
 use Rattle.numeric.proofs.Order.{not-lt, lt-asym, le_trans, le_not_lt}
-use Rattle.rowsearch.specs.Account.{◌∈◌, All, NoNan}
+use Rattle.rowsearch.specs.Account.{All, NoNan}
 use Rattle.chosen.specs.Ranking.{before, Strict}
 use Rattle.chosen.proofs.Ranking.{before-strict}
 use Rattle.rtapex.specs.InTime.{apex_time}
