@@ -2,14 +2,14 @@
 use Rattle.std.specs.Prelude.{◌≡◌, refl, List, [], ◌∷◌, map, ℕ, Float}
 use Rattle.std.specs.Float.{binary32}
 use Rattle.std.specs.Float.Ieee.{of_bits, to_bits, of_int, neg, add, sub, mul, div, lt, le, ne, is_nan, to_unsigned}
-use Rattle.numeric.specs.Arith.{index_f, 𝟎, 𝟏}
+use Rattle.numeric.specs.Arith.{index_f, 𝟏}
 use Rattle.numeric.specs.Numeric.{max_f, min_f, clamp_f, lerp_f, in_range, all_in_range}
 use Rattle.rounding.specs.Rounding.{floor_f, ceil_f, round_f}
 use Rattle.refusal.specs.Refusal.{first_of}
 use Rattle.params.specs.Params.{rising, rising_from}
 use Rattle.apex.specs.Apex.{left_of, least, run_above, part_way, left_crossing, right_crossing}
 use Rattle.area.specs.Area.{height_at, strip, within, head, whole, tail, across, between, area_f}
-use Rattle.record.specs.Record.{peak_from, peak_at, sound_tof, sound_frames, sound_options, sound_scans, sound_shape, sound}
+use Rattle.record.specs.Record.{peak_from, sound_tof, sound_frames, sound_options, sound_scans, sound_shape, sound}
 use Rattle.spans.specs.Span.{width_of, span_of}
 use Rattle.rttime.specs.Time.{time_between, never_falls, never_falls_from}
 use Rattle.rtrecord.specs.RtRecord.{group_word, rt_peak_of}

@@ -4,7 +4,7 @@ use Rattle.std.proofs.Math.Option.{none, some}
 use Rattle.refusal.specs.Refusal.{Check, first_of}
 use Rattle.refusal.specs.Answers.{Says}
 use Rattle.limits.specs.Limits.{max_reading, max_seconds, max_frames}
-use Rattle.numeric.specs.Numeric.{in_range, all_in_range}
+use Rattle.numeric.specs.Numeric.{all_in_range}
 use Rattle.record.specs.Record.{size, peak_at, sound}
 use Rattle.params.specs.Params.{rising}
 use Rattle.rttime.specs.Time.{never_falls}

@@ -9,20 +9,20 @@ use rtrecord::{PeakId, RtApex, RtBounds, RtPeak1D};
 use spans::inner::Span;
 
 // The highest reading of a trace, and its place.
-#[derive(Drop)]
+#[derive(Clone, Copy)]
 pub struct Top {
     pub place: usize,
     pub height: f32,
 }
 
 // The sum of the readings, and of each times its place.
-#[derive(Drop)]
+#[derive(Clone, Copy)]
 pub struct Sums {
     pub mass: f32,
     pub moment: f32,
 }
 
-#[derive(Drop)]
+#[derive(Clone, Copy)]
 pub enum Fallback {
     Peak(RtPeak1D),
     NoPeak,

@@ -1,4 +1,6 @@
 // The one retention peak of a trace that is not searched: about its highest reading.
+#![tactic(auto)]
+
 pub mod inner;
 
 ghost use Rattle.std.specs.Prelude.{◌≡◌, ◌≤◌, length};
@@ -11,7 +13,7 @@ use inner::Fallback;
 use record::ImPeak1D;
 use rtrecord::{PeakId, RtPeak1D};
 
-#[derive(Drop)]
+#[derive(Clone, Copy)]
 pub enum FallbackAnswer {
     Peak,
     NoPeak,

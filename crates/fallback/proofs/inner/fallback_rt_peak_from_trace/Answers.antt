@@ -1,0 +1,27 @@
+use mathlib.Core.Path.{ap}
+use native.Mathlib.Omega.{arith}
+use Rattle.fallback.specs.declared.inner.Fallback.TheVariants.{Peak}
+use Rattle.fallback.specs.Fallback.{fallback_of}
+use Rattle.fallback.proofs.Laws.{top_within, none-of-none}
+use Rattle.fallback.proofs.inner.fallback_rt_peak_from_trace.Goals as goal
+
+pub returns-then-trace-eq0 : goal.returns-then-trace-eq0
+returns-then-trace-eq0 c = let a = c.args in none-of-none a.trace.now a.ids.now a.times.now a.p a.frac a.id c.if-trace-eq0.true
+
+pub returns-then-top : goal.returns-then-top
+unfolding fallback_of
+returns-then-top c = rw (← c.top_of-top.ensures, c.if-top.true)
+
+pub reach_of-reach-requires : goal.reach_of-reach-requires
+reach_of-reach-requires c = (top_within c.args.trace.now c.top_of-top.result c.top_of-top.ensures (omega arith), c.requires.0)
+
+pub span_of-span-requires : goal.span_of-span-requires
+span_of-span-requires c = (top_within c.args.trace.now c.top_of-top.result c.top_of-top.ensures (omega arith), c.requires.0, c.requires.0, c.reach_of-reach.ensures)
+
+pub apex_of-apex-requires : goal.apex_of-apex-requires
+apex_of-apex-requires c = let i = top_within c.args.trace.now c.top_of-top.result c.top_of-top.ensures (omega arith) in
+    (omega arith, c.requires.0, c.requires.1 (omega arith), omega (arith, i, c.requires.0))
+
+pub returns : goal.returns
+unfolding fallback_of
+returns c = rw (← c.top_of-top.ensures, c.if-top.false) (ap Peak (simp (c.rt_peak_of.ensures, c.bounds_of-bounds.ensures, c.apex_of-apex.ensures, c.span_of-span.ensures)))
