@@ -1,4 +1,6 @@
 // The retention peaks of a trace over its frames.
+#![tactic(auto)]
+
 pub mod inner;
 
 ghost use Rattle.std.specs.Prelude.{◌≡◌, ◌++◌, ◌≤◌, ◌*◌, length, drop};
@@ -10,7 +12,7 @@ ghost use Rattle.retention.specs.Trace.{call_of, floor_of, peaks_of, peak_words,
 use rtparams::ThresholdMode;
 use rtrecord::RtLocalPeak;
 
-#[derive(Drop)]
+#[derive(Clone, Copy)]
 pub enum RtAnswer {
     LocalPeaks(usize),
     Refused(u32),

@@ -1,0 +1,9 @@
+use mathlib.Core.Path.{refl}
+use Prim.Native.Nat.{◌-◌}
+use Rattle.retention.specs.Trace.{same_lengths}
+use Rattle.retention.proofs.same_lengths.Goals as goal
+
+-- src/lib.rt:21:1
+pub returns : goal.returns
+unfolding same_lengths
+returns c = refl
