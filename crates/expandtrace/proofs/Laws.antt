@@ -1,21 +1,19 @@
 -- Traces value by value, and where the fallback's apex lies.
 use mathlib.Core.Path.{◌≡◌, refl, sym, ap, ◌∙◌}
 use mathlib.Core.Bool.{Bool, true, false, cond, ◌||◌}
-use mathlib.Core.List.{List, [], ◌∷◌, ◌++◌, append-nil}
-use Prim.Native.Nat.{ℕ, suc, ◌≤◌, ◌<◌, ◌+◌, ◌-◌, ◌*◌}
+use mathlib.Core.List.{List, ◌++◌, append-nil}
+use Prim.Native.Nat.{ℕ, suc, ◌≤◌, ◌<◌, ◌+◌}
 use native.Mathlib.Numerals.{add-one}
 use native.Mathlib.Omega.{arith}
 use borrow.Author.Tests.{lt-ltb, le-ltb}
 use lib.ListN.{length, drop, drop_of_length-le}
 use lib.Seq.{drop-cons}
-use lib.Dec.{ltb}
 use lib.Ieee.{Float, nan, lt, le}
 use Rattle.limits.specs.Limits.{exact_index}
-use Rattle.numeric.specs.Arith.{◌⊗◌, 𝟎, at}
+use Rattle.numeric.specs.Arith.{𝟎, at}
 use Rattle.rounding.specs.Rounding.{floor_f}
-use Rattle.spans.specs.Span.{span_of}
 use Rattle.record.specs.declared.ImPeak1D.{ImPeak1D}
-use Rattle.rtrecord.specs.RtRecord.{rt_size, rt_words, rt_peak_of, with_rt_peak}
+use Rattle.rtrecord.specs.RtRecord.{rt_size, rt_words, rt_peak_of}
 use Rattle.rtrecord.specs.declared.RtPeak1D.{RtPeak1D}
 use Rattle.rtplace.specs.Placed.{placed}
 use Rattle.rtplace.proofs.Laws.{sample-most}

@@ -15,7 +15,7 @@ use tof::TofScale;
 
 // Which way a mobility peak takes whose frames are known: its trace has no reading above 0, it has fewer frames than are searched, or
 // it is smoothed and searched.
-#[derive(Drop)]
+#[derive(Clone, Copy)]
 pub enum Way {
     AllZero,
     TooShort,
