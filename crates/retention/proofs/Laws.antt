@@ -1,8 +1,7 @@
 -- Laws of the records of a trace, and of a call that no number refuses.
 use mathlib.Core.Path.{◌≡◌, refl, sym, ap, ◌∙◌, subst}
-use mathlib.Core.Bool.{true}
 use mathlib.Core.List.{List, [], ◌∷◌, ◌++◌, append_assoc, append-nil, map}
-use Prim.Native.Nat.{ℕ, zero, suc, ◌+◌, ◌-◌, ◌*◌, ◌≤◌, ◌<◌}
+use Prim.Native.Nat.{ℕ, ◌+◌, ◌*◌, ◌≤◌, ◌<◌}
 use native.Mathlib.Omega.{arith}
 use native.Mathlib.Numerals.{add-one}
 use borrow.Author.Tests.{not-false, eqb-true, ltb-false}
@@ -22,8 +21,8 @@ use Rattle.rtapex.specs.InTime.{local_peak_of}
 use Rattle.rtsearch.specs.Retention.{listed_apexes, rt_peaks}
 use Rattle.rtplaces.specs.Places.{index_at}
 use Rattle.rtsearch.specs.Steps.{RtFound, RtSearchable}
-use Rattle.retention.specs.Trace.{peak_words, RtCall, call_of, same_lengths, sound_readings, rt_number}
-use Rattle.retention.specs.Steps.{peaks_at, Writable, Checked}
+use Rattle.retention.specs.Trace.{peak_words, call_of, same_lengths, sound_readings, rt_number}
+use Rattle.retention.specs.Steps.{peaks_at, Checked}
 use Rattle.retention.proofs.TraceLaws.{none-for}
 
 -- ---- records

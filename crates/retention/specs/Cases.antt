@@ -3,7 +3,7 @@ use Rattle.std.specs.Prelude.{◌≡◌, refl, List, [], ◌∷◌, map, ℕ, Fl
 use Rattle.std.specs.Float.{binary32}
 use Rattle.std.specs.Float.Ieee.{of_int, of_bits, to_bits, neg, add, sub, mul, div, lt, le, ne, is_nan, to_unsigned}
 use Rattle.refusal.specs.Refusal.{first_of}
-use Rattle.numeric.specs.Arith.{index_f, 𝟎, 𝟏}
+use Rattle.numeric.specs.Arith.{index_f, 𝟎}
 use Rattle.numeric.specs.Numeric.{max_f, min_f, abs_f, clamp_f, lerp_f, quad_f, in_range, all_in_range}
 use Rattle.rounding.specs.Rounding.{round_f}
 use Rattle.apex.specs.Apex.{is_candidate, candidates_to, left_of, up_to_higher, least, baseline, prominence, half_height, run_above, part_way, left_crossing, right_crossing}
@@ -14,7 +14,7 @@ use Rattle.rttime.specs.Time.{time_between, time_at, never_falls_from, never_fal
 use Rattle.rtparams.specs.Modes.{effective_f, sound_mode}
 use Rattle.rtparams.specs.declared.ThresholdMode.{ThresholdMode}
 use Rattle.rtparams.specs.declared.ThresholdMode.TheVariants.{Fixed, AdaptiveNoise}
-use Rattle.rank.specs.Rank.{counted, first_at, ranked, rank_f, distances}
+use Rattle.rank.specs.Rank.{counted, first_at, ranked, rank_f}
 use Rattle.noise.specs.Noise.{middle, noise_f}
 use Rattle.chosen.specs.Chosen.{near_any, choose, choose_all, passing}
 use Rattle.chosen.specs.Ranking.{before, inserted_by, ordered_by}

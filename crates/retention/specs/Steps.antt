@@ -1,6 +1,6 @@
 -- The steps of the entry: what they ask of their arguments.
-use Rattle.std.specs.Prelude.{◌≡◌, true, List, map, ℕ, ◌*◌, ◌≤◌, ◌<◌, length, get_or, take, Float}
-use Rattle.limits.specs.Limits.{any_number, exact_index, max_frames}
+use Rattle.std.specs.Prelude.{◌≡◌, true, List, map, ℕ, ◌*◌, ◌≤◌, ◌<◌, length, get_or, Float}
+use Rattle.limits.specs.Limits.{any_number, exact_index}
 use Rattle.numeric.specs.Numeric.{all_in_range}
 use Rattle.params.specs.Params.{most_peaks}
 use Rattle.rtrecord.specs.RtRecord.{local_size}

@@ -1,5 +1,4 @@
 use mathlib.Core.Path.{sym, ◌∙◌}
-use Prim.Native.Nat.{◌-◌}
 use Rattle.retention.proofs.Laws.{checked}
 use Rattle.retention.proofs.find_rt_peaks.Goals as goal
 

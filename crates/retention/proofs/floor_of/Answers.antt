@@ -1,4 +1,3 @@
-use Prim.Native.Nat.{◌-◌}
 use Rattle.retention.specs.Trace.{floor_of}
 use Rattle.retention.proofs.floor_of.Goals as goal
 

@@ -1,5 +1,4 @@
 use mathlib.Core.Path.{refl}
-use Prim.Native.Nat.{◌-◌}
 use Rattle.retention.specs.Trace.{same_lengths}
 use Rattle.retention.proofs.same_lengths.Goals as goal
 

@@ -1,4 +1,3 @@
-use Prim.Native.Nat.{◌-◌}
 use Rattle.retention.specs.Trace.{sound_readings}
 use Rattle.retention.proofs.sound_readings.Goals as goal
 

@@ -1,4 +1,3 @@
-use Prim.Native.Nat.{◌-◌}
 use Rattle.retention.specs.Trace.{sound_values}
 use Rattle.retention.proofs.sound_values.Goals as goal
 

@@ -1,6 +1,4 @@
-use Prim.Native.Nat.{ℕ, ◌<◌}
 use native.Mathlib.Omega.{arith}
-use borrow.Author.Rules.{rules}
 use Rattle.retention.proofs.Laws.{searchable}
 use Rattle.retention.proofs.inner.+list_in_16384.Goals as goal
 

@@ -1,6 +1,6 @@
 use mathlib.Core.Path.{◌∙◌, ap}
 use mathlib.Core.List.{◌++◌}
-use Prim.Native.Nat.{◌-◌, ◌+◌, ◌*◌}
+use Prim.Native.Nat.{◌*◌}
 use lib.ListN.{drop}
 use Rattle.rtrecord.specs.RtRecord.{local_size}
 use Rattle.retention.specs.Trace.{peak_words}

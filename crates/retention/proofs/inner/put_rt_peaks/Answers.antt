@@ -1,5 +1,4 @@
 use mathlib.Core.Path.{refl, ◌∙◌}
-use Prim.Native.Nat.{◌-◌}
 use native.Mathlib.Omega.{arith}
 use Rattle.retention.proofs.Laws.{none-put, next-put}
 use Rattle.retention.proofs.inner.put_rt_peaks.Goals as goal
