@@ -1,4 +1,6 @@
 // The retention level as C functions on numbers and lists: the noise of a trace, the fallback, and expansion.
+#![tactic(auto)]
+
 pub mod search;
 pub mod single;
 pub mod trace;
