@@ -87,7 +87,7 @@ pub fn see(
     scans: &[u32],
     readings: &[f32],
 ) -> Seen
-    ensures { result ≡ seen_in limit (record { starts = starts.entry.now; bins = bins.now; offsets = offsets.now; scans = scans.now; readings = readings.now }) }
+    ensures { result ≡ seen_in limit (record { starts = starts.now; bins = bins.now; offsets = offsets.now; scans = scans.now; readings = readings.now }) }
 {
     let frames = starts.len();
     Seen {
