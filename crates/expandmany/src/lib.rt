@@ -1,3 +1,5 @@
 // The retention peaks of many mobility peaks over a run that has been checked.
 // All of it is inner: the entries stand in `expand`.
+#![tactic(auto)]
+
 pub mod inner;
