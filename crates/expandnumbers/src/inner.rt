@@ -12,7 +12,7 @@ use rtrecord::RtPeak1D;
 // What a call is asked besides its index, each true where it is met: lengths that agree (number 1), sizes within their limits (2),
 // parameters, times and identities (4), TOF values (5), weights (6), axes that rise or do not fall (7), records (9), room for what is written (20),
 // scratch (21), and a scale whose numbers agree (22).
-#[derive(Drop)]
+#[derive(Clone, Copy)]
 pub struct Asked {
     pub lengths: bool,
     pub sizes: bool,
