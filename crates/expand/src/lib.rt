@@ -1,4 +1,6 @@
 // Expansion: mobility peaks followed along retention time.
+#![tactic(auto)]
+
 pub mod inner;
 mod numbers;
 mod sized;
@@ -14,7 +16,7 @@ use record::{ImPeak1D, PeakId};
 use rtparams::RtExpandParams;
 use tof::TofScale;
 
-#[derive(Drop)]
+#[derive(Clone, Copy)]
 pub enum ExpandAnswer {
     RtPeaks(usize),
     Refused(u32),

@@ -14,7 +14,7 @@ use rtparams::RtExpandParams;
 use tof::TofScale;
 
 // The lengths of the lent lists.
-#[derive(Drop)]
+#[derive(Clone, Copy)]
 pub struct Rooms {
     pub out: usize,
     pub counts: usize,
