@@ -1,5 +1,7 @@
 // The two lists by which a run is followed, frame numbers and times, held together. A function over them takes them apart and calls
 // the function that is handed them one by one.
+#![tactic(auto)]
+
 pub mod inner;
 
 ghost use Rattle.std.specs.Prelude.{◌≡◌, length};
@@ -19,7 +21,7 @@ use record::PeakId;
 use rtparams::RtExpandParams;
 use tof::TofScale;
 
-#[derive(Drop)]
+#[derive(Clone, Copy)]
 pub struct RtTraceCtx<'a> {
     pub frame_ids_sorted: &'a [u32],
     pub rt_times_sec: &'a [f32],
