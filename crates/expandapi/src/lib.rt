@@ -1,4 +1,6 @@
 // Expansion, the second call, as C functions on numbers and lists.
+#![tactic(auto)]
+
 pub mod many;
 pub mod one;
 pub mod word;
