@@ -1,6 +1,7 @@
 // Replays stored answers of the Rust to frames, to sums over frame indexes, to retention traces and to both calls of expansion, through
 // the C entries. Standard input has a line for each: the call and its answer, as hexadecimal words with one space between. A line that
 // starts with '#' is passed over.
+#![tactic(auto)]
 mod alone;
 mod first_call;
 mod frames;
@@ -11,6 +12,7 @@ mod sums;
 ghost use Rattle.std.specs.Prelude.{◌≤◌, ◌<◌, length};
 
 use hexlines::{Reading, Tally};
+use std::io::Read;
 
 fn agrees(words: &[u32]) -> bool {
     let f = lines::spread(words);
@@ -32,7 +34,7 @@ fn counted(t: Tally, words: &[u32]) -> Tally {
 }
 
 // What has been read, and what has been counted.
-#[derive(Drop)]
+#[derive(Clone, Copy)]
 struct State {
     reading: Reading,
     tally: Tally,
@@ -54,7 +56,7 @@ fn feed_all(line: &mut [u32], s: State, bytes: &[u8]) -> State
     State { reading, tally }
 }
 
-fn main() {
+fn main(rt: HostRuntime) {
     let mut line = [0u32; lines::ROOM];
     let mut s = State {
         reading: hexlines::start(),
@@ -63,20 +65,20 @@ fn main() {
             differ: 0,
         },
     };
-    let mut buf = io::large_buffer();
+    let mut buf = [0u8; 65536];
+    let mut input = rt.stdin();
     let mut turns = u64::MAX;
     while turns > 0 {
         turns -= 1;
-        let got = libc::read(0, &mut buf);
-        if got <= 0 {
+        let Ok(k) = input.read(&mut buf) else {
+            break;
+        };
+        if k == 0 {
             break;
         }
-        let k = io::count(got, &buf);
         s = feed_all(&mut line, s, &buf[..k]);
     }
-    let t = s.tally;
-    io::print_decimal(1, t.lines);
-    io::write_all(1, b" answers replayed, ");
-    io::print_decimal(1, t.differ);
-    io::write_all(1, b" differ\n");
+    let lines = s.tally.lines;
+    let differ = s.tally.differ;
+    let _ = println!(rt; "{lines} answers replayed, {differ} differ");
 }

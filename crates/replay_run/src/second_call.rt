@@ -7,7 +7,7 @@ use super::lines::{
 };
 
 // Where the ten lists of a line end; the first starts at word 30.
-#[derive(Drop)]
+#[derive(Clone, Copy)]
 struct Ends {
     list: usize,
     starts: usize,

@@ -1,0 +1,10 @@
+use mathlib.Core.Path.{◌≡◌}
+use Prim.Native.Nat.{◌≤◌, ◌-◌}
+use lib.ListN.{length}
+use Rattle.replay_run.proofs.lines.spread.Given as goal
+
+abbrev pub invariant-loop-i : goal.invariant-loop-i
+invariant-loop-i l = (l.i ≤ 1024) × (length l.f ≡ 1024)
+
+abbrev pub decreases-loop-i : goal.decreases-loop-i
+decreases-loop-i l = 1024 - l.i
