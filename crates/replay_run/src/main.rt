@@ -2,6 +2,7 @@
 // the C entries. Standard input has a line for each: the call and its answer, as hexadecimal words with one space between. A line that
 // starts with '#' is passed over.
 #![tactic(auto)]
+
 mod alone;
 mod first_call;
 mod frames;
