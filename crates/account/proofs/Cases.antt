@@ -1,4 +1,7 @@
 -- What the functions hand back for the worked cases.
+use Rattle.refusal.specs.declared.Refusal.{Refusal}
+use Rattle.refusal.proofs.NumberedLaws.{which as told_by}
+use Rattle.std.specs.Prelude.{Result, Ok}
 use mathlib.Core.Path.{◌≡◌, refl, sym, ap, ◌∙◌, subst}
 use mathlib.Core.Bool.{true}
 use mathlib.Core.List.Memᴰ
@@ -12,18 +15,13 @@ use Rattle.refusal.proofs.Bools.{clash}
 use Rattle.numeric.specs.Arith.{index_f}
 use Rattle.record.specs.Record.{size, peak_at}
 use Rattle.gridrows.specs.Grid.{listed_in, count_from, count_to, words_to}
-use Rattle.grid.specs.declared.GridAnswer.{GridAnswer}
-use Rattle.grid.specs.declared.GridAnswer.TheVariants.{Peaks}
 use Rattle.grid.specs.Answer.{number_for, Answered}
-use Rattle.grid.proofs.GridNumberLaws.{grid-which}
 use Rattle.gridlaws.proofs.GridRecords.{count-step, rows-bear}
 use Rattle.passes.specs.Account.{places_of, members_of}
 use Rattle.digits.specs.Sorted.{up_to}
 use Rattle.digits.proofs.SortedLaws.{at-index}
-use Rattle.stitch.proofs.StitchNumberLaws.{stitch-which}
 use Rattle.matching.specs.Cases.{asked}
 use Rattle.passes.specs.Stitching.{stitched}
-use Rattle.stitch.specs.declared.StitchAnswer.{StitchAnswer}
 use Rattle.stitch.specs.StitchNumber.{peaks_in}
 use Rattle.stitch.specs.Answer.{Lent as StitchLists, Answered as StitchAnswered, number_for as number_of}
 use Rattle.stitchlaws.specs.Cases.{list, before, accepted, peaks, two, answered}
@@ -31,9 +29,6 @@ use Rattle.chosen.specs.Times.{near_in_time}
 use Rattle.rtapex.specs.InTime.{apex_time}
 use Rattle.rtrecord.specs.RtRecord.{rt_peak_at}
 use Rattle.expand.specs.ExpandCall.{Lent, one_number, peaks_of, OneAnswered}
-use Rattle.expand.specs.declared.ExpandAnswer.{ExpandAnswer}
-use Rattle.expand.specs.declared.ExpandAnswer.TheVariants.{RtPeaks}
-use Rattle.expand.proofs.ExpandLaws.{expand-which}
 use Rattle.expandpeak.specs.Expanded.{searched}
 use Rattle.expandlaws.specs.ExpandAccount.{smooth_over, listed_over, Ordinary, ExpandAccounted}
 use Rattle.expandlaws.proofs.Calls.{one-accounted}
@@ -100,12 +95,12 @@ far t =
     (λ m. ⊎_elim (λ (e : t.to ≡ 1). t.other e) (λ n. absurd (Memᴰ.not-nil n)) (Memᴰ.cases_cons m))
     (Memᴰ.cases_cons (rw chosen-are at t.chosen))
 
-module _ (is : Lent) (answer : ExpandAnswer) (a : OneAnswered run params peak weights 0 lists is answer) where
+module _ (is : Lent) (answer : Result ℕ Refusal) (a : OneAnswered run params peak weights 0 lists is answer) where
   abbrev count : ℕ
   count = length (peaks_of run params peak weights 0)
 
-  is-count : answer ≡ RtPeaks count
-  is-count = rw case.run-accepted at (expand-which answer (one_number run params peak weights 0 lists) count a.answered)
+  is-count : answer ≡ Ok count
+  is-count = rw case.run-accepted at (told_by ℕ answer (one_number run params peak weights 0 lists) count a.answered)
 
   -- its records, from the account of expansion
   abbrev records : ExpandAccounted run params weights p 0 8 0 count is.out
@@ -125,7 +120,7 @@ module _ (is : Lent) (answer : ExpandAnswer) (a : OneAnswered run params peak we
   run-case : RunCase is answer
   run-case =
       record {
-        answered = is-count ∙ ap RtPeaks one-record;
+        answered = is-count ∙ ap (λ (n : ℕ). Ok n) one-record;
         ordinary = on-path;
         qualify = rw qualifying-are (at-index (1 ∷ 5 ∷ 7 ∷ []) 0 (omega arith), at-index (1 ∷ 5 ∷ 7 ∷ []) 2 (omega arith));
         not_listed = ((λ l. omega (arith, only-five 1 l)), (λ l. omega (arith, only-five 7 l)));
@@ -133,12 +128,12 @@ module _ (is : Lent) (answer : ExpandAnswer) (a : OneAnswered run params peak we
         small = (far, rw (chosen-are, smooth-is, case.run-raw) case.run-share);
       }
 
-grid-case : (out₀ out : List ℕ) (s₀ s : List Float) (answer : GridAnswer) → length out₀ ≡ 3 * size → length s₀ ≡ 7 → Answered grid 1 out₀ out s₀ s answer → GridCase out answer
+grid-case : (out₀ out : List ℕ) (s₀ s : List Float) (answer : Result ℕ Refusal) → length out₀ ≡ 3 * size → length s₀ ≡ 7 → Answered grid 1 out₀ out s₀ s answer → GridCase out answer
 grid-case out₀ out s₀ s answer l m a =
     let e : number_for grid 1 out₀ s₀ ≡ 0 = rw (l, m) case.grid-accepted in
     let words : out ≡ words_to grid 1 ++ drop (count_to grid 1 * size) out₀ = rw e at a.words in
     record {
-      answered = (rw e at (grid-which answer (number_for grid 1 out₀ s₀) (count_to grid 1) a.answered)) ∙ ap Peaks one-listed;
+      answered = (rw e at (told_by ℕ answer (number_for grid 1 out₀ s₀) (count_to grid 1) a.answered)) ∙ ap (λ (n : ℕ). Ok n) one-listed;
       qualifies = rw case.grid-qualifying (at-index (1 ∷ 3 ∷ 5 ∷ []) 0 (omega arith));
       not_listed = λ t.
           let low = t.among in
@@ -148,11 +143,11 @@ grid-case out₀ out s₀ s answer l m a =
           omega (arith, is, one);
     }
 
-stitch-case : (is : StitchLists) (answer : StitchAnswer) → StitchAnswered true list (asked 2 10) before is answer → StitchCase is answer
+stitch-case : (is : StitchLists) (answer : Result ℕ Refusal) → StitchAnswered true list (asked 2 10) before is answer → StitchCase is answer
 unfolding members_of places_of up_to
 stitch-case is answer a =
     record {
-      answered = rw (accepted, peaks, two) at (stitch-which answer (number_of true list (asked 2 10) before) (length (stitched (asked 2 10) (peaks_in list))) a.answered);
+      answered = rw (accepted, peaks, two) at (told_by ℕ answer (number_of true list (asked 2 10) before) (length (stitched (asked 2 10) (peaks_in list))) a.answered);
       merged = rw ((answered is answer a).1, peaks) refl;
     }
 

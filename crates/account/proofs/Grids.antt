@@ -1,4 +1,7 @@
 -- The records of a grid's list, as words and as bytes, account for its qualifying apexes.
+use Rattle.refusal.specs.declared.Refusal.{Refusal}
+use Rattle.refusal.proofs.NumberedLaws.{which as told_by}
+use Rattle.std.specs.Prelude.{Result, Ok, Err}
 use mathlib.Core.Path.{◌≡◌, refl, sym, ap, ◌∙◌, subst}
 use mathlib.Core.Bool.{Bool}
 use mathlib.Core.List.{List, [], ◌++◌}
@@ -20,10 +23,8 @@ use Rattle.digits.proofs.SortedLaws.{at-index}
 use Rattle.row.specs.Written.{stride}
 use Rattle.gridrows.specs.Grid.{Grid, row_of, searched_of, listed_in, count_to, words_to}
 use Rattle.gridrows.proofs.Laws.{words-length}
-use Rattle.grid.specs.declared.GridAnswer.{GridAnswer}
-use Rattle.grid.specs.declared.GridAnswer.TheVariants.{Peaks, Refused}
 use Rattle.grid.specs.Answer.{number_for}
-use Rattle.grid.proofs.GridNumberLaws.{none-for, grid-which}
+use Rattle.grid.proofs.GridNumberLaws.{none-for}
 use Rattle.grid.proofs.Laws.{sizes-held}
 use Rattle.gridlaws.proofs.GridRecords.{count-step, count-rise, rows-bear, all_placed, rows-ascend}
 use Rattle.wordbytes.specs.Bytes.{words_of, bytes_of}
@@ -133,9 +134,9 @@ module _ (g : Grid) (rows : ℕ) (rest out : List ℕ) (count : ℕ) (counted : 
 
 -- ---- as words
 
-abbrev is_count : GridAnswer → ℕ
-is_count (Peaks n) = n
-is_count (Refused n) = 0
+abbrev is_count : Result ℕ Refusal → ℕ
+is_count (Ok n) = n
+is_count (Err e) = 0
 
 words_long : (g : Grid) (rows : ℕ) → length (words_to g rows) ≡ count_to g rows * size
 words_long g rows = words-length g 0 rows
@@ -144,7 +145,7 @@ pub grids-accounted : GridsAccounted
 grids-accounted g rows out₀ out s₀ s count a =
     let number = number_for g rows out₀ s₀ in
     let e : number ≡ 0 = sym (ap (λ x. x.number) a.answered) in
-    let counted : count ≡ count_to g rows = ap is_count (rw e at (grid-which (Peaks count) number (count_to g rows) a.answered)) in
+    let counted : count ≡ count_to g rows = ap is_count (rw e at (told_by ℕ (Ok count) number (count_to g rows) a.answered)) in
     let rest = drop (count_to g rows * size) out₀ in
     let words : out ≡ words_to g rows ++ rest = rw e at a.words in
     let long : length (words_to g rows) ≡ count * size = words_long g rows ∙ ap (λ (n : ℕ). n * size) (sym counted) in (

@@ -1,6 +1,8 @@
 -- Worked cases, by computation; they need not be read to know what is promised. There is something to explain: a grid, a list and a run that are
 -- accepted, with a qualifying apex that is not listed, with two peaks that come to one, and with a retention apex that is missing for
 -- either reason.
+use Rattle.refusal.specs.declared.Refusal.{Refusal}
+use Rattle.std.specs.Prelude.{Result, Ok, Some}
 use Rattle.std.specs.Prelude.{◌≡◌, refl, true, false, List, [], ◌∷◌, map, ℕ, ◌*◌, length, replicate, Float}
 use Rattle.std.specs.Float.Ieee.{of_int, of_bits, to_bits, neg, add, sub, mul, div, lt, le, eq, ne, is_nan, to_unsigned}
 use Rattle.refusal.specs.Refusal.{first_of}
@@ -14,7 +16,7 @@ use Rattle.spans.specs.Span.{width_of}
 use Rattle.record.specs.Record.{size, peak_from, peak_at, sound, sound_tof, sound_frames, sound_options, sound_scans, sound_shape, all_sound}
 use Rattle.record.specs.declared.ImPeak1D.{ImPeak1D}
 use Rattle.params.specs.Params.{sound_params, sound_bounds, all_up_to, rising, rising_from}
-use Rattle.params.specs.declared.WindowGroup.TheVariants.{Missing}
+use Rattle.std.specs.Prelude.{None}
 use Rattle.rowsearch.specs.Suppression.{keep, keep_all}
 use Rattle.rowsearch.specs.Qualifying.{highest_reading, left_x, right_x, width, qualifies, that_qualify, qualifying, kept}
 use Rattle.smoothrow.specs.SmoothRow.{searched}
@@ -33,7 +35,6 @@ use Rattle.rtparams.specs.Modes.{effective_f, sound_mode}
 use Rattle.rtparams.specs.Expand.{sound_expand}
 use Rattle.rtparams.specs.declared.RtExpandParams.{RtExpandParams}
 use Rattle.rtparams.specs.declared.ThresholdMode.TheVariants.{Fixed}
-use Rattle.rtwindow.specs.declared.FrameWindow.TheVariants.{Frames}
 use Rattle.rtwindow.specs.FrameWindow.{before, frame_with, widened, between as window_between, padded_window}
 use Rattle.chosen.specs.Chosen.{near_any, choose, choose_all, passing}
 use Rattle.chosen.specs.Ranking.{before as first, inserted_by, ordered_by}
@@ -48,15 +49,9 @@ use Rattle.expandnumbers.specs.ExpandNumber.{sum_of, all_weights, sound_values, 
 use Rattle.expand.specs.ExpandCall.{Lent, lent_of, many_asks, many_number, one_number}
 use Rattle.expandlaws.specs.ExpandAccount.{raw_over, smooth_over}
 use Rattle.expand.specs.ExpandCall.{OneAnswered}
-use Rattle.expand.specs.declared.ExpandAnswer.{ExpandAnswer}
-use Rattle.expand.specs.declared.ExpandAnswer.TheVariants.{RtPeaks}
 use Rattle.rowsearch.specs.Account.{◌∈◌}
-use Rattle.grid.specs.declared.GridAnswer.{GridAnswer}
-use Rattle.grid.specs.declared.GridAnswer.TheVariants.{Peaks}
 use Rattle.grid.specs.Answer.{Answered as GridAnswered}
 use Rattle.matching.specs.Cases.{asked}
-use Rattle.stitch.specs.declared.StitchAnswer.{StitchAnswer}
-use Rattle.stitch.specs.declared.StitchAnswer.TheVariants.{Stitched}
 use Rattle.stitch.specs.Answer.{Lent as StitchLists, Answered as StitchAnswered}
 use Rattle.stitchlaws.specs.Cases.{list, before as lent}
 use Rattle.account.specs.Demand3.{qualifying_in, Listed, members, qualifying_over, shares_over, OrdinaryPath, TooClose, ListedFrame}
@@ -67,7 +62,7 @@ abbrev pub grid : Grid
 grid =
     grid_of 7 (map index_f (0 ∷ 4 ∷ 0 ∷ 6 ∷ 0 ∷ 8 ∷ 0 ∷ [])) (1 ∷ 2 ∷ 3 ∷ 4 ∷ 5 ∷ 6 ∷ 7 ∷ [])
     (record { tof_min = 0; tof_max = 0; tof_step = 1; num_bins = 1 })
-    (record { rt_lo = 0; rt_hi = 0; frame_id_lo = 0; frame_id_hi = 0; window_group = Missing })
+    (record { rt_lo = 0; rt_hi = 0; frame_id_lo = 0; frame_id_hi = 0; window_group = None })
     []
     (record { min_prom = 𝟎; min_distance_scans = 3; min_width_scans = 0 })
     []
@@ -129,7 +124,7 @@ pub run-accepted : one_number run params peak weights 0 lists ≡ 0
 unfolding many_number many_asks first_of seen_in sound_lists climbs_to climbs_from frames_rise frames_rise_from rising rising_from all_up_to all_in_range in_range sound_values sound_expand sound_mode sound_step sound_ends agreeing sum_of all_weights sound_weights rising_axes never_falls never_falls_from enough_room peak_from all_sound sound sound_tof sound_frames sound_options sound_scans sound_shape lt le of_int of_bits to_bits
 run-accepted = refl
 
-pub run-window : Frames 0 8 ≡ window_in run params p
+pub run-window : Some (record { lo = 0; hi = 8 }) ≡ window_in run params p
 unfolding padded_window window_between widened frame_with before peak_from
 run-window = refl
 
@@ -201,20 +196,20 @@ run-far = refl
 -- ==== so there is something to explain, whatever the functions hand back: `cases` in proofs/Cases.antt
 
 -- the grid has one record, and the qualifying apex at index 1 is not listed
-pub record GridCase (out : List ℕ) (answer : GridAnswer) : Type 0 where
-  pub answered : answer ≡ Peaks 1
+pub record GridCase (out : List ℕ) (answer : Result ℕ Refusal) : Type 0 where
+  pub answered : answer ≡ Ok 1
   pub qualifies : 1 ∈ qualifying_in grid 0
   pub not_listed : Listed out 1 0 1 → ⊥
 
 -- three peaks come to two, the first and the third to one
-pub record StitchCase (is : StitchLists) (answer : StitchAnswer) : Type 0 where
-  pub answered : answer ≡ Stitched 2
+pub record StitchCase (is : StitchLists) (answer : Result ℕ Refusal) : Type 0 where
+  pub answered : answer ≡ Ok 2
   pub merged : members list is 0 ≡ 0 ∷ 2 ∷ []
 
 -- the mobility peak has one record on the ordinary path; the qualifying apex at frame 7 is missing since it lies too close to another one,
 -- and that at frame 1 since it fails a share
-pub record RunCase (is : Lent) (answer : ExpandAnswer) : Type 0 where
-  pub answered : answer ≡ RtPeaks 1
+pub record RunCase (is : Lent) (answer : Result ℕ Refusal) : Type 0 where
+  pub answered : answer ≡ Ok 1
   pub ordinary : OrdinaryPath run params weights p 0 8
   pub qualify : (1 ∈ qualifying_over run params weights p 0 8) × (7 ∈ qualifying_over run params weights p 0 8)
   pub not_listed : (ListedFrame is.out 0 1 1 → ⊥) × (ListedFrame is.out 0 1 7 → ⊥)
@@ -222,7 +217,7 @@ pub record RunCase (is : Lent) (answer : ExpandAnswer) : Type 0 where
   pub small : (TooClose run params weights p 0 8 1 → ⊥) × (shares_over run params weights p 0 8 1 ≡ false)
 
 pub record SomethingToExplain : Type 0 where
-  pub grids : (out₀ out : List ℕ) (scratch₀ scratch : List Float) (answer : GridAnswer) → length out₀ ≡ 3 * size → length scratch₀ ≡ 7
+  pub grids : (out₀ out : List ℕ) (scratch₀ scratch : List Float) (answer : Result ℕ Refusal) → length out₀ ≡ 3 * size → length scratch₀ ≡ 7
       → GridAnswered grid 1 out₀ out scratch₀ scratch answer → GridCase out answer
-  pub stitching : (is : StitchLists) (answer : StitchAnswer) → StitchAnswered true list (asked 2 10) lent is answer → StitchCase is answer
-  pub expansion : (is : Lent) (answer : ExpandAnswer) → OneAnswered run params peak weights 0 lists is answer → RunCase is answer
+  pub stitching : (is : StitchLists) (answer : Result ℕ Refusal) → StitchAnswered true list (asked 2 10) lent is answer → StitchCase is answer
+  pub expansion : (is : Lent) (answer : Result ℕ Refusal) → OneAnswered run params peak weights 0 lists is answer → RunCase is answer

@@ -2,6 +2,7 @@
 -- expansion, and at the end the demand in one statement. It speaks of what the public functions hand back, and asks nothing but that what was
 -- handed in was accepted: that the answer is a count. Proved in proofs/Demand3.antt. Worked cases, which show that there is something to
 -- explain, stand in specs/Cases.antt. docs/ACCOUNT.md leads from each sentence of the demand to its place here.
+use Rattle.std.specs.Prelude.{Ok, Some}
 use Rattle.std.specs.Prelude.{◌≡◌, Bool, true, false, List, ◌⊎◌, ◌↔◌, ◌≢◌, ℕ, ◌+◌, ◌*◌, ◌/◌, ◌%◌, ◌≤◌, ◌<◌, length, get_or, take, Float}
 use Rattle.std.specs.Float.Ieee.{lt, le}
 use Rattle.numeric.specs.Arith.{at}
@@ -10,7 +11,6 @@ use Rattle.record.specs.declared.ImPeak1D.{ImPeak1D}
 use Rattle.rowsearch.specs.Account.{◌∈◌, dist}
 use Rattle.rowsearch.specs.Qualifying.{qualifying}
 use Rattle.gridrows.specs.Grid.{Grid, row_of, searched_of, words_to}
-use Rattle.grid.specs.declared.GridAnswer.TheVariants.{Peaks}
 use Rattle.grid.specs.Answer.{Answered as GridAnswered}
 use Rattle.gridlaws.specs.GridRecords.{Before}
 use Rattle.wordbytes.specs.Bytes.{words_of, bytes_of}
@@ -20,12 +20,10 @@ use Rattle.peaklist.specs.Extremes.{lowest_of, highest_of}
 use Rattle.merging.specs.MergingLaws.{Bound, low, high}
 use Rattle.grouping.specs.Grouping.{peaks_at}
 use Rattle.passes.specs.Account.{owner_at, members_of}
-use Rattle.stitch.specs.declared.StitchAnswer.TheVariants.{Stitched}
 use Rattle.stitch.specs.StitchNumber.{peaks_in}
 use Rattle.stitch.specs.Answer.{Lent as StitchLists, Answered as StitchAnswered}
 use Rattle.capi.specs.Stitching.{Answered as StitchCalled}
 use Rattle.rtparams.specs.declared.RtExpandParams.{RtExpandParams}
-use Rattle.rtwindow.specs.declared.FrameWindow.TheVariants.{Frames}
 use Rattle.rtrecord.specs.RtRecord.{rt_size, rt_peak_at}
 use Rattle.rtrecord.specs.declared.RtPeak1D.{RtPeak1D}
 use Rattle.chosen.specs.Times.{near_in_time}
@@ -35,7 +33,6 @@ use Rattle.expandtrace.specs.declared.inner.Way.TheVariants.{Smoothed}
 use Rattle.expandtrace.specs.Trace.{way_of}
 use Rattle.expandpeak.specs.Expanded.{Run, window_in, floor_of}
 use Rattle.expandmany.specs.Many.{Many, sum_to, weights_at}
-use Rattle.expand.specs.declared.ExpandAnswer.TheVariants.{RtPeaks}
 use Rattle.expand.specs.ExpandCall.{Lent as ExpandLists, OneAnswered, ManyAnswered}
 use Rattle.expand.specs.ExpandCall.{peaks_in as to_expand}
 use Rattle.expandapi.specs.Expansion.{OneTold, ManyTold}
@@ -93,7 +90,7 @@ pub record GridAccounted (g : Grid) (rows count : ℕ) (out : List ℕ) : Type 0
 abbrev pub GridsAccounted : Type 0
 GridsAccounted =
     (g : Grid) (rows : ℕ) (out₀ out : List ℕ) (scratch₀ scratch : List Float) (count : ℕ)
-    → GridAnswered g rows out₀ out scratch₀ scratch (Peaks count)
+    → GridAnswered g rows out₀ out scratch₀ scratch (Ok count)
     → (take (count * size) out ≡ words_to g rows) × GridAccounted g rows count out
 
 -- The C function `rubzolena_detect_im_peaks`, over the bytes of its list. It answers 64 times the count, or a number, all of which are below 64.
@@ -137,7 +134,7 @@ pub record StitchAccounted (list : List ℕ) (is : StitchLists) (count : ℕ) : 
 abbrev pub StitchingAccounted : Type 0
 StitchingAccounted =
     (told : Bool) (list : List ℕ) (params : StitchParams) (was is : StitchLists) (count : ℕ)
-    → StitchAnswered told list params was is (Stitched count) → StitchAccounted list is count
+    → StitchAnswered told list params was is (Ok count) → StitchAccounted list is count
 
 -- the C function `rubzolena_stitch_im_peaks`
 abbrev pub StitchCallsAccounted : Type 0
@@ -150,7 +147,7 @@ StitchCallsAccounted =
 -- Padded frame window: the one that the Rust forms for the mobility peak and that expansion's first call gives, frames lo to hi, ends included,
 -- by their places in the run (rtwindow/specs/FrameWindow.antt).
 abbrev pub Window : Run → RtExpandParams → ImPeak1D → ℕ → ℕ → Type 0
-Window run e p lo hi = Frames lo hi ≡ window_in run e p
+Window run e p lo hi = Some (record { lo = lo; hi = hi }) ≡ window_in run e p
 
 -- a record whose apex frame and both frame bounds lie in the frames lo to hi
 pub record Within (lo hi : ℕ) (r : RtPeak1D) : Type 0 where
@@ -226,7 +223,7 @@ pub record ExpansionAccounted (run : Run) (e : RtExpandParams) (ws : List Float)
 abbrev pub OneExpanded : Type 0
 OneExpanded =
     (run : Run) (e : RtExpandParams) (peak : List ℕ) (ws : List Float) (first : ℕ) (was is : ExpandLists) (count : ℕ)
-    → OneAnswered run e peak ws first was is (RtPeaks count) → ExpansionAccounted run e ws (peak_at peak 0) 0 count is.out
+    → OneAnswered run e peak ws first was is (Ok count) → ExpansionAccounted run e ws (peak_at peak 0) 0 count is.out
 
 -- the C function `rubzolena_expand_im_peak`
 abbrev pub OneCallExpanded : Type 0
@@ -244,7 +241,7 @@ pub record AllExpanded (m : Many) (counts out : List ℕ) (total : ℕ) : Type 0
 -- `expand::expand_many_im_peaks_along_rt`, where it answers a count
 abbrev pub ManyExpanded : Type 0
 ManyExpanded =
-    (m : Many) (was is : ExpandLists) (counts₀ counts : List ℕ) (total : ℕ) → ManyAnswered m was is counts₀ counts (RtPeaks total)
+    (m : Many) (was is : ExpandLists) (counts₀ counts : List ℕ) (total : ℕ) → ManyAnswered m was is counts₀ counts (Ok total)
     → AllExpanded m counts is.out total
 
 -- the C function `rubzolena_expand_many_im_peaks`

@@ -1,7 +1,7 @@
 -- The twelve proved cases of document 01, (a) to (l), as one table: what is asked, and what the definitions that the contracts cite answer to
 -- it. Readings are given as whole numbers, floats in records as bit patterns. `TwelveHold` says that all of them hold; it is computed.
-use Rattle.std.specs.Prelude.{◌≡◌, List, [], ◌∷◌, ◌++◌, map, ℕ, ◌+◌, ◌*◌, length, Float}
-use Rattle.std.proofs.Math.Option.{Option, none, some}
+use Rattle.refusal.specs.Numbered.{says}
+use Rattle.std.specs.Prelude.{Option, None, Some, Ok, ◌≡◌, List, [], ◌∷◌, ◌++◌, map, ℕ, ◌+◌, ◌*◌, length, Float}
 use Rattle.std.specs.Float.{binary32}
 use Rattle.std.specs.Float.Ieee.{of_bits}
 use Rattle.refusal.specs.Answers.{answer_by}
@@ -11,21 +11,18 @@ use Rattle.params.specs.Params.{most_peaks}
 use Rattle.params.specs.declared.ImDetectParams.{ImDetectParams}
 use Rattle.params.specs.declared.RowPlace.{RowPlace}
 use Rattle.params.specs.declared.FrameBounds.{FrameBounds}
-use Rattle.params.specs.declared.WindowGroup.TheVariants.{Missing}
 use Rattle.rowsearch.specs.Qualifying.{kept}
 use Rattle.row.specs.Row.{row_words}
 use Rattle.row.specs.RowNumber.{row_number}
 use Rattle.digits.specs.Sorted.{up_to}
 use Rattle.tof.specs.declared.TofScale.{TofScale}
-use Rattle.tof.specs.declared.BuildAnswer.{BuildAnswer}
 use Rattle.tof.specs.Tof.{row_place}
-use Rattle.tof.specs.TofAnswers.{build_says, build_answer, bin_answer}
+use Rattle.tof.specs.TofAnswers.{build_answer, bin_answer}
 use Rattle.rtparams.specs.declared.ThresholdMode.{ThresholdMode}
 use Rattle.rtparams.specs.declared.ThresholdMode.TheVariants.{Fixed}
 use Rattle.rtparams.specs.Modes.{effective_f}
 use Rattle.rank.specs.Rank.{distances}
-use Rattle.noise.specs.declared.NoiseAnswer.TheVariants.{Noise}
-use Rattle.noise.specs.Noise.{middle, to_sigma, noise_f, noise_number, noise_says}
+use Rattle.noise.specs.Noise.{middle, to_sigma, noise_f, noise_number}
 use Rattle.rtrecord.specs.RtRecord.{rt_size}
 use Rattle.fallback.specs.FallbackNumber.{fallback_number, with_fallback, fallback_peak}
 
@@ -44,7 +41,7 @@ abbrev pub place : RowPlace
 place = record { tof_row = 2; tof_center = 101; tof_lo = 100; tof_hi = 102 }
 
 abbrev pub frames : FrameBounds
-frames = record { rt_lo = 3; rt_hi = 5; frame_id_lo = 7; frame_id_hi = 9; window_group = Missing }
+frames = record { rt_lo = 3; rt_hi = 5; frame_id_lo = 7; frame_id_hi = 9; window_group = None }
 
 abbrev pub scans : List ℕ → List ℕ
 scans xs = map (λ k. 10 + 2 * k) (up_to (length xs))
@@ -107,8 +104,8 @@ table =
     ∷ row 0 3 (0 ∷ 4 ∷ 0 ∷ 4 ∷ 0 ∷ []) (peak 1 0 2 0x4080_0000 0x4080_0000 0x3f00_0000 0x3fc0_0000 1 0x4040_0000 0x8000_0000 40)
     -- (h) TOF 0 to 10, step 4: three bins, 8 in bin 2, 9 in none
     ∷ scale (3 ∷ 10 ∷ 0 ∷ 7 ∷ []) 4 (scale_with 0 8 4 3)
-    ∷ bin (scale_with 0 8 4 3) 8 (some 2)
-    ∷ bin (scale_with 0 8 4 3) 9 none
+    ∷ bin (scale_with 0 8 4 3) 8 (Some 2)
+    ∷ bin (scale_with 0 8 4 3) 9 None
     -- (i) Fixed(2) at noise 1 and at noise 0
     ∷ threshold (Fixed (index_f 2)) (index_f 1) (index_f 3)
     ∷ threshold (Fixed (index_f 2)) (index_f 0) (index_f 2)
@@ -130,7 +127,7 @@ Holds (row floor distance xs words) =
     let y = readings xs in
     (row_number y y place frames [] (asks floor distance) (scans xs) 40 (most_peaks (length xs) * size) ≡ 0)
     × (row_words place frames [] (scans xs) y y 40 (kept (asks floor distance) y y) ≡ words)
-Holds (scale tofs step s) = build_answer tofs step ≡ build_says (BuildAnswer.Scale s)
+Holds (scale tofs step s) = build_answer tofs step ≡ says (Ok (Some s))
 Holds (bin s tof b) = bin_answer s tof ≡ answer_by 0 b
 Holds (threshold mode n floor) = effective_f mode n ≡ floor
 Holds (fallback trace fraction words) =
@@ -138,7 +135,7 @@ Holds (fallback trace fraction words) =
     × (with_fallback [] (fallback_peak (readings trace) ids times mobility fraction 99) ≡ words)
 Holds (noise signal m deviation) =
     let xs = readings signal in
-    (middle xs ≡ m) × (middle (distances m xs) ≡ deviation) × (answer_by (noise_number xs) (noise_f xs) ≡ noise_says (Noise (deviation ⊗ to_sigma)))
+    (middle xs ≡ m) × (middle (distances m xs) ≡ deviation) × (answer_by (noise_number xs) (noise_f xs) ≡ says (Ok (deviation ⊗ to_sigma)))
 Holds (centre s i c) = (row_place s i).tof_center ≡ c
 
 abbrev pub AllHold : List Case → Type 0

@@ -31,8 +31,8 @@ fn none_below(y: &[f32], low: f32) -> bool
     ensures { result ≡ none_below low y.now }
 {
     let mut none = true;
-    for i in 0..y.len() {
-        none = none & !(y[i] < low);
+    for &reading in y {
+        none &= !(reading < low);
     }
     none
 }
@@ -57,6 +57,7 @@ fn left_least(y: &[f32], ground: f32, i: usize) -> Low
     let apex = y[i];
     let mut m = apex;
     let mut l = i;
+    // A `while`: the walk ends at the row's start, at the ground or at a higher reading, and its length is part of the answer.
     while l > 0 && ground < m {
         l -= 1;
         let v = y[l];
@@ -83,6 +84,7 @@ fn right_least(y: &[f32], left: f32, i: usize) -> Low
     let apex = y[i];
     let mut m = apex;
     let mut r = i + 1;
+    // A `while` for the same reasons.
     while r < y.len() && !(m <= left) {
         let v = y[r];
         r += 1;
@@ -138,6 +140,7 @@ pub fn left_foot(y: &[f32], h: f32, i: usize) -> usize
     ensures { result ≡ left_foot y.now h i }
 {
     let mut w = i;
+    // A `while`: the index where it ends is the answer, which a chain of `rev`, `position` and `map_or` says in more words.
     while w > 0 && y[w] > h {
         w -= 1;
     }
@@ -150,6 +153,7 @@ pub fn right_foot(y: &[f32], h: f32, i: usize) -> usize
     ensures { result ≡ right_foot y.now h i }
 {
     let mut w = i;
+    // A `while`, as on the left.
     while w + 1 < y.len() && y[w] > h {
         w += 1;
     }

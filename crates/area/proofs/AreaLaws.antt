@@ -1,4 +1,4 @@
--- What the number of an area says, and which answer it is.
+-- What the number of an area says.
 use mathlib.Core.Path.{◌≡◌, refl}
 use mathlib.Core.Bool.{true, false}
 use mathlib.Core.List.{List}
@@ -6,12 +6,8 @@ use Prim.Native.Nat.{ℕ}
 use lib.Ieee.{Float}
 use Rattle.refusal.specs.Refusal.{first_of, ascending_from}
 use Rattle.refusal.proofs.RefusalLaws.{lowest_by, none-by, applies_for}
-use Rattle.refusal.specs.AnswersLaws.{from_says}
-use Rattle.refusal.proofs.AnswersLaws.{which}
-use Rattle.area.specs.declared.AreaAnswer.{AreaAnswer}
-use Rattle.area.specs.declared.AreaAnswer.TheVariants.{Area, Refused}
-use Rattle.area.specs.Area.{area_checks, area_number, area_says}
-use Rattle.area.specs.AreaLaws.{AreaLowest, AreaTold}
+use Rattle.area.specs.Area.{area_checks, area_number}
+use Rattle.area.specs.AreaLaws.{AreaLowest}
 
 pub number_is : (y : List Float) (x0 x1 : Float) → area_number y x0 x1 ≡ first_of (area_checks y x0 x1)
 unfolding area_number
@@ -29,11 +25,3 @@ module _ (y : List Float) (x0 x1 : Float) where
 -- it is the lowest that applies
 pub number-lowest : AreaLowest
 number-lowest y x0 x1 h = lowest_by (area_checks y x0 x1) (number_is y x0 x1) (ascending y x0 x1) h
-
--- an answer is told by what it says
-again : (r : AreaAnswer) → r ≡ from_says Area Refused (area_says r)
-again (Area a) = refl
-again (Refused n) = refl
-
-pub area-which : AreaTold
-area-which r n a e = which Area Refused area_says again r n a e

@@ -1,15 +1,11 @@
 -- The area under the straight lines that join the readings, between two places x0 and x1 given in samples. Segment s runs
 -- from sample s to sample s + 1. Every operation is rounded once, in this order.
 use Rattle.std.specs.Prelude.{cond, not, ◌&&◌, List, [], ◌∷◌, ℕ, zero, suc, ◌+◌, ◌-◌, min, leb, ltb, eqb, length, Float}
-use Rattle.std.proofs.Math.Option.{none, some}
 use Rattle.std.specs.Float.Ieee.{le}
 use Rattle.refusal.specs.Refusal.{Check, first_of}
-use Rattle.refusal.specs.Answers.{Says}
 use Rattle.limits.specs.Limits.{max_samples, max_reading, max_place}
 use Rattle.numeric.specs.Arith.{◌⊕◌, ◌⊖◌, ◌⊗◌, 𝟎, ½, 𝟏, index_f, at}
 use Rattle.numeric.specs.Numeric.{clamp_f, cast_f, in_range, all_in_range, lerp_f}
-use Rattle.area.specs.declared.AreaAnswer.{AreaAnswer}
-use Rattle.area.specs.declared.AreaAnswer.TheVariants.{Area, Refused}
 
 -- the height of segment s at the share t of its length
 unfoldable pub height_at : List Float → ℕ → Float → Float
@@ -66,8 +62,3 @@ area_checks y x0 x1 =
 
 unfoldable pub area_number : List Float → Float → Float → ℕ
 area_number y x0 x1 = first_of (area_checks y x0 x1)
-
--- what its answers say
-abbrev pub area_says : AreaAnswer → Says Float
-area_says (Area a) = record { number = 0; values = some a }
-area_says (Refused n) = record { number = n; values = none }

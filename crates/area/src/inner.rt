@@ -16,12 +16,6 @@ fn strip_of(p: f32, q: f32, w: f32) -> f32
     0.5 * (p + q) * w
 }
 
-fn smaller(a: usize, b: usize) -> usize
-    ensures { result ≡ min a b }
-{
-    if a < b { a } else { b }
-}
-
 fn within_segment(y: &[f32], s: usize, x0: f32, x1: f32) -> f32
     requires { (s + 1 < length y.now) × (length y.now ≤ exact_index) }
     ensures { result ≡ within y.now s x0 x1 }
@@ -71,7 +65,7 @@ fn across_segments(y: &[f32], s0: usize, s1: usize, x0: f32, x1: f32) -> f32
     requires { (s0 + 1 < length y.now) × (length y.now ≤ exact_index) }
     ensures { result ≡ across y.now s0 s1 x0 x1 }
 {
-    let to = smaller(s1, y.len() - 2);
+    let to = s1.min(y.len() - 2);
     let a = whole_segments(y, s0 + 1, to, head_of(y, s0, x0));
     tail_of(y, s1, x1, a)
 }
@@ -86,7 +80,7 @@ fn area_between(y: &[f32], x0: f32, x1: f32, g0: usize, g1: usize) -> f32
     }
     let i0 = rounding::near::cast_near(x0, g0) as usize;
     let i1 = rounding::near::cast_near(x1, g1) as usize;
-    let s0 = smaller(i0, y.len() - 2);
+    let s0 = i0.min(y.len() - 2);
     if i0 == i1 {
         return within_segment(y, s0, x0, x1);
     }

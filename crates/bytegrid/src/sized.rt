@@ -1,187 +1,78 @@
 // Rows of a grid with local lists of a length that fits them.
 ghost use Rattle.std.specs.Prelude.{◌≤◌, ◌<◌, ◌+◌, ◌*◌, ◌/◌, length};
+ghost use Rattle.rowsearch.specs.Room.{Sizes};
 ghost use Rattle.gridrows.specs.Steps.{Done};
+ghost use Rattle.byterows.specs.Call.{bytes_in};
+ghost use Rattle.wordbytes.specs.Bytes.{floats_of};
 ghost use Rattle.byterows.specs.AsBytes.{as_bytes};
-ghost use Rattle.bytegrid.specs.ByteGrid.{byte_grid, Fit};
+ghost use Rattle.bytegrid.specs.ByteGrid.{Fit};
 
-use params::{FrameBounds, ImDetectParams};
+use byterows::call::ByteCall;
 use record::{ImPeak1D, PeakId};
-use tof::TofScale;
+use rowsearch::scratch::Scratch;
 
 // Rows that are worked through in one part.
 const MANY_ROWS: usize = 65536;
 
-// The records of the peaks of the rows from `from` to `to`, with room for rows of 32, 256, 1,024 and 16,384 samples.
-fn detect_in_32(
+// The records of the peaks of the rows from `from` to `to`, with local lists for rows of at most N samples. It is no part of its callers, so that
+// each has the stack of one size alone.
+#[inline(never)]
+fn detect_in<const N: usize, const B: usize, const F: usize>(
+    call: &ByteCall<'_>,
+    weights: &[u8],
     from: usize,
     to: usize,
-    cols: usize,
-    used: &[u8],
-    scans: &[u8],
-    scale: TofScale,
-    bounds: FrameBounds,
-    mobility: &[u8],
-    p: ImDetectParams,
-    weights: &[u8],
-    first: PeakId,
     out: &mut [u8],
 ) -> usize
-    requires { Fit (byte_grid cols used.now scans.now scale bounds mobility.now p weights.now first) from to (length out.old) × (cols ≤ 32) }
-    ensures { Done as_bytes (byte_grid cols used.now scans.now scale bounds mobility.now p weights.now first) from to out.old out.new result }
+    requires rows { Fit (bytes_in call.now (floats_of weights.now)) from to (length out.old) × (call.now.cols ≤ N) }
+    requires sizes { Sizes N B F }
+    ensures { Done as_bytes (bytes_in call.now (floats_of weights.now)) from to out.old out.new result }
 {
-    let mut z = [0f32; 32];
-    let mut y = [0f32; 32];
-    let mut turns = [0u32; 32];
-    let mut bases = [0u32; 52];
-    let mut found = [0u32; 128];
-    super::weighed::detect_lent(
-        from, to, cols, used, scans, scale, bounds, mobility, p, weights, first, out, &mut z,
-        &mut y, &mut turns, &mut bases, &mut found,
-    )
-}
-
-fn detect_in_256(
-    from: usize,
-    to: usize,
-    cols: usize,
-    used: &[u8],
-    scans: &[u8],
-    scale: TofScale,
-    bounds: FrameBounds,
-    mobility: &[u8],
-    p: ImDetectParams,
-    weights: &[u8],
-    first: PeakId,
-    out: &mut [u8],
-) -> usize
-    requires { Fit (byte_grid cols used.now scans.now scale bounds mobility.now p weights.now first) from to (length out.old) × (cols ≤ 256) }
-    ensures { Done as_bytes (byte_grid cols used.now scans.now scale bounds mobility.now p weights.now first) from to out.old out.new result }
-{
-    let mut z = [0f32; 256];
-    let mut y = [0f32; 256];
-    let mut turns = [0u32; 256];
-    let mut bases = [0u32; 272];
-    let mut found = [0u32; 1024];
-    super::weighed::detect_lent(
-        from, to, cols, used, scans, scale, bounds, mobility, p, weights, first, out, &mut z,
-        &mut y, &mut turns, &mut bases, &mut found,
-    )
-}
-
-fn detect_in_1024(
-    from: usize,
-    to: usize,
-    cols: usize,
-    used: &[u8],
-    scans: &[u8],
-    scale: TofScale,
-    bounds: FrameBounds,
-    mobility: &[u8],
-    p: ImDetectParams,
-    weights: &[u8],
-    first: PeakId,
-    out: &mut [u8],
-) -> usize
-    requires { Fit (byte_grid cols used.now scans.now scale bounds mobility.now p weights.now first) from to (length out.old) × (cols ≤ 1024) }
-    ensures { Done as_bytes (byte_grid cols used.now scans.now scale bounds mobility.now p weights.now first) from to out.old out.new result }
-{
-    let mut z = [0f32; 1024];
-    let mut y = [0f32; 1024];
-    let mut turns = [0u32; 1024];
-    let mut bases = [0u32; 800];
-    let mut found = [0u32; 4096];
-    super::weighed::detect_lent(
-        from, to, cols, used, scans, scale, bounds, mobility, p, weights, first, out, &mut z,
-        &mut y, &mut turns, &mut bases, &mut found,
-    )
-}
-
-fn detect_in_16384(
-    from: usize,
-    to: usize,
-    cols: usize,
-    used: &[u8],
-    scans: &[u8],
-    scale: TofScale,
-    bounds: FrameBounds,
-    mobility: &[u8],
-    p: ImDetectParams,
-    weights: &[u8],
-    first: PeakId,
-    out: &mut [u8],
-) -> usize
-    requires { Fit (byte_grid cols used.now scans.now scale bounds mobility.now p weights.now first) from to (length out.old) × (cols ≤ 16384) }
-    ensures { Done as_bytes (byte_grid cols used.now scans.now scale bounds mobility.now p weights.now first) from to out.old out.new result }
-{
-    let mut z = [0f32; 16384];
-    let mut y = [0f32; 16384];
-    let mut turns = [0u32; 16384];
-    let mut bases = [0u32; 8480];
-    let mut found = [0u32; 65536];
-    super::weighed::detect_lent(
-        from, to, cols, used, scans, scale, bounds, mobility, p, weights, first, out, &mut z,
-        &mut y, &mut turns, &mut bases, &mut found,
-    )
+    let mut z = [0f32; N];
+    let mut y = [0f32; N];
+    let mut turns = [0u32; N];
+    let mut bases = [0u32; B];
+    let mut found = [0u32; F];
+    let mut scratch = Scratch {
+        samples: N,
+        turns: &mut turns,
+        bases: &mut bases,
+        found: &mut found,
+    };
+    super::weighed::detect_lent(call, weights, from, to, out, &mut z, &mut y, &mut scratch)
 }
 
 // The records of the peaks of the rows from `from` to `to`. Many rows are worked through in two halves. This function calls itself, so a
 // compiler keeps the lists of those that it calls out of its frame, and short rows do not pay for the lists of long ones.
 pub fn detect_bytes(
+    call: &ByteCall<'_>,
+    weights: &[u8],
     from: usize,
     to: usize,
-    cols: usize,
-    used: &[u8],
-    scans: &[u8],
-    scale: TofScale,
-    bounds: FrameBounds,
-    mobility: &[u8],
-    p: ImDetectParams,
-    weights: &[u8],
-    first: PeakId,
     out: &mut [u8],
 ) -> usize
-    requires { Fit (byte_grid cols used.now scans.now scale bounds mobility.now p weights.now first) from to (length out.old) }
-    ensures { Done as_bytes (byte_grid cols used.now scans.now scale bounds mobility.now p weights.now first) from to out.old out.new result }
+    requires { Fit (bytes_in call.now (floats_of weights.now)) from to (length out.old) }
+    ensures { Done as_bytes (bytes_in call.now (floats_of weights.now)) from to out.old out.new result }
 {
     if to - from > MANY_ROWS {
         let mid = from + (to - from) / 2;
-        let n = detect_bytes(
-            from, mid, cols, used, scans, scale, bounds, mobility, p, weights, first, out,
-        );
+        let n = detect_bytes(call, weights, from, mid, out);
         let at = n * ImPeak1D::BYTES;
-        let id = first + n as PeakId;
-        let m = detect_bytes(
-            mid,
-            to,
-            cols,
-            used,
-            scans,
-            scale,
-            bounds,
-            mobility,
-            p,
-            weights,
-            id,
-            &mut out[at..],
-        );
+        let rest = ByteCall {
+            first: call.first + n as PeakId,
+            ..*call
+        };
+        let m = detect_bytes(&rest, weights, mid, to, &mut out[at..]);
         return n + m;
     }
-    if cols <= 32 {
-        return detect_in_32(
-            from, to, cols, used, scans, scale, bounds, mobility, p, weights, first, out,
-        );
+    if call.cols <= 32 {
+        return detect_in::<32, 52, 128>(call, weights, from, to, out);
     }
-    if cols <= 256 {
-        return detect_in_256(
-            from, to, cols, used, scans, scale, bounds, mobility, p, weights, first, out,
-        );
+    if call.cols <= 256 {
+        return detect_in::<256, 272, 1024>(call, weights, from, to, out);
     }
-    if cols <= 1024 {
-        return detect_in_1024(
-            from, to, cols, used, scans, scale, bounds, mobility, p, weights, first, out,
-        );
+    if call.cols <= 1024 {
+        return detect_in::<1024, 800, 4096>(call, weights, from, to, out);
     }
-    detect_in_16384(
-        from, to, cols, used, scans, scale, bounds, mobility, p, weights, first, out,
-    )
+    detect_in::<16384, 8480, 65536>(call, weights, from, to, out)
 }

@@ -1,2 +1,3 @@
 -- The definitions that the contracts of `byterows` cite.
 pub mod AsBytes
+pub mod Call

@@ -1,55 +1,62 @@
 // The rows of a grid in bytes, one after another.
-ghost use Rattle.std.specs.Prelude.{◌≡◌, ◌<◌, ◌+◌, ◌*◌, ◌/◌, length};
-ghost use Rattle.smoothing.specs.Smoothing.{normalised};
-ghost use Rattle.row.specs.Steps as row;
-ghost use Rattle.gridrows.specs.Steps.{grid_of, Handed, RowPut, Lent, RowReady, RowDone, Ready, Done};
+ghost use Rattle.std.specs.Prelude.{◌≡◌, ◌≤◌, ◌/◌, length};
 ghost use Rattle.wordbytes.specs.Bytes.{words_of, floats_of};
+ghost use Rattle.gridrows.specs.Steps.{numbered, Handed, RowPut, RowReady, RowDone, Ready, Done};
 ghost use Rattle.byterows.specs.AsBytes.{as_bytes};
+ghost use Rattle.byterows.specs.Call.{bytes_in};
 
-use params::{FrameBounds, ImDetectParams, RowPlace};
+use super::call::ByteCall;
+use params::RowPlace;
 use record::{ImPeak1D, PeakId};
+use rowsearch::scratch::Scratch;
 use smoothrow::inner::Sought;
-use tof::TofScale;
+use smoothrow::kernel::Kernel;
 
-// Writes the records of the peaks of a row z, smoothed into y where weights are given, to the front of `out`, and answers how many
-// there are; u are the weights divided by their sum. The lists for turns, bases and what is found are scratch too.
+// Writes the records of the peaks of a row z, smoothed into `y` where weights are given, to the front of `out`, and answers how many there
+// are.
 fn list_row(
     z: &[f32],
     place: RowPlace,
-    bounds: FrameBounds,
-    mobility: &[u8],
-    p: ImDetectParams,
-    scans: &[u8],
-    weights: &[f32],
-    u: &[f32],
+    call: &ByteCall<'_>,
+    kernel: &Kernel<'_>,
     first: PeakId,
     out: &mut [u8],
     y: &mut [f32],
-    turns: &mut [u32],
-    bases: &mut [u32],
-    found: &mut [u32],
+    scratch: &mut Scratch<'_>,
 ) -> usize
-    requires { Handed z.now (words_of scans.now) weights.now u.now first (length out.old / 4) (length y.old) (length turns.old) (length bases.old) (length found.old) }
-    ensures { RowPut as_bytes place bounds (floats_of mobility.now) p (words_of scans.now) weights.now z.now first out.old out.new result }
+    requires { Handed z.now (words_of call.now.scans.now) kernel.now.weights.now first (length out.old / 4) (length y.old) scratch.old.samples }
+    ensures listed { RowPut as_bytes place call.now.bounds (floats_of call.now.mobility.now) call.now.params (words_of call.now.scans.now) kernel.now.weights.now z.now first out.old out.new result }
+    ensures samples { scratch.new.samples ≡ scratch.old.samples }
 {
-    let sought = smoothrow::inner::search_row(z, p, weights, u, y, turns, bases, found);
+    let sought = smoothrow::inner::search_row(z, call.params, kernel, y, scratch);
     match sought {
         Sought::Nothing => 0,
         Sought::Raw(n) => {
-            super::records::put_peaks(found, n, z, z, place, bounds, mobility, scans, first, out);
+            super::records::put_peaks(
+                scratch.found,
+                n,
+                z,
+                z,
+                place,
+                call.bounds,
+                call.mobility,
+                call.scans,
+                first,
+                out,
+            );
             n
         }
         Sought::Smoothed(n) => {
             let cols = z.len();
             super::records::put_peaks(
-                found,
+                scratch.found,
                 n,
                 &y[..cols],
                 z,
                 place,
-                bounds,
-                mobility,
-                scans,
+                call.bounds,
+                call.mobility,
+                call.scans,
                 first,
                 out,
             );
@@ -58,85 +65,45 @@ fn list_row(
     }
 }
 
-// The records of the peaks of row r, with identities from `first` on; the row is decoded into z.
+// The records of the peaks of row r, with identities from `first` on; z is scratch for its readings.
 fn detect_row(
+    call: &ByteCall<'_>,
+    kernel: &Kernel<'_>,
     r: usize,
-    cols: usize,
-    used: &[u8],
-    scans: &[u8],
-    scale: TofScale,
-    bounds: FrameBounds,
-    mobility: &[u8],
-    p: ImDetectParams,
-    weights: &[f32],
-    u: &[f32],
     first: PeakId,
     out: &mut [u8],
     z: &mut [f32],
     y: &mut [f32],
-    turns: &mut [u32],
-    bases: &mut [u32],
-    found: &mut [u32],
+    scratch: &mut Scratch<'_>,
 ) -> usize
-    requires { RowReady (grid_of cols (floats_of used.now) (words_of scans.now) scale bounds (floats_of mobility.now) p weights.now first) u.now r (length out.old / 4) × (length z.old ≡ cols) × Lent cols (length y.old) (length turns.old) (length bases.old) (length found.old) }
-    ensures { RowDone as_bytes (grid_of cols (floats_of used.now) (words_of scans.now) scale bounds (floats_of mobility.now) p weights.now first) r out.old out.new result }
+    requires { RowReady (numbered (bytes_in call.now kernel.now.weights.now) first) r (length out.old / 4) × (length z.old ≡ call.now.cols) × (call.now.cols ≤ length y.old) × (call.now.cols ≤ scratch.old.samples) }
+    ensures done { RowDone as_bytes (numbered (bytes_in call.now kernel.now.weights.now) first) r out.old out.new result }
+    ensures samples { scratch.new.samples ≡ scratch.old.samples }
 {
-    let place = tof::inner::row_place(scale, r as u32);
-    wordbytes::inner::decode_floats(used, r * cols, z);
-    list_row(
-        z, place, bounds, mobility, p, scans, weights, u, first, out, y, turns, bases, found,
-    )
+    wordbytes::inner::decode_floats(call.used, r * call.cols, z);
+    let place = tof::inner::row_place(call.scale, r as u32);
+    list_row(z, place, call, kernel, first, out, y, scratch)
 }
 
-// The records of the peaks of the rows from `from` to `to`, with identities that run on from `first`.
+// The records of the peaks of the rows from `from` to `to`, one row after another.
 pub fn detect_rows(
+    call: &ByteCall<'_>,
+    kernel: &Kernel<'_>,
     from: usize,
     to: usize,
-    cols: usize,
-    used: &[u8],
-    scans: &[u8],
-    scale: TofScale,
-    bounds: FrameBounds,
-    mobility: &[u8],
-    p: ImDetectParams,
-    weights: &[f32],
-    u: &[f32],
-    first: PeakId,
     out: &mut [u8],
     z: &mut [f32],
     y: &mut [f32],
-    turns: &mut [u32],
-    bases: &mut [u32],
-    found: &mut [u32],
+    scratch: &mut Scratch<'_>,
 ) -> usize
-    requires { Ready (grid_of cols (floats_of used.now) (words_of scans.now) scale bounds (floats_of mobility.now) p weights.now first) from to (length out.old / 4) × (u.now ≡ normalised weights.now) × (length z.old ≡ cols) × Lent cols (length y.old) (length turns.old) (length bases.old) (length found.old) }
-    ensures { Done as_bytes (grid_of cols (floats_of used.now) (words_of scans.now) scale bounds (floats_of mobility.now) p weights.now first) from to out.old out.new result }
+    requires { Ready (bytes_in call.now kernel.now.weights.now) from to (length out.old / 4) × (length z.old ≡ call.now.cols) × (call.now.cols ≤ length y.old) × (call.now.cols ≤ scratch.old.samples) }
+    ensures { Done as_bytes (bytes_in call.now kernel.now.weights.now) from to out.old out.new result }
 {
     let mut n = 0usize;
-    let mut r = from;
-    while r < to {
+    for r in from..to {
         let at = n * ImPeak1D::BYTES;
-        let id = first + n as PeakId;
-        n += detect_row(
-            r,
-            cols,
-            used,
-            scans,
-            scale,
-            bounds,
-            mobility,
-            p,
-            weights,
-            u,
-            id,
-            &mut out[at..],
-            z,
-            y,
-            turns,
-            bases,
-            found,
-        );
-        r += 1;
+        let id = call.first + n as PeakId;
+        n += detect_row(call, kernel, r, id, &mut out[at..], z, y, scratch);
     }
     n
 }

@@ -9,6 +9,11 @@ use lib.Dec.{leb, ltb, eqb}
 use lib.ListN.{length}
 use lib.Ieee.{Float}
 use Rattle.refusal.specs.Refusal.{first_of, ascending_from}
+use Rattle.std.specs.Prelude.{Ok, Err}
+use Rattle.refusal.specs.declared.Refusal.{Refusal}
+use Rattle.refusal.specs.Numbered.{number_of, says}
+use Rattle.refusal.proofs.NumberedLaws.{number_of-positive}
+use Rattle.entryword.specs.Word.{as_word, word_of, itself}
 use Rattle.refusal.proofs.RefusalLaws.{lowest, applies_for}
 use Rattle.limits.specs.Limits.{max_weight}
 use Rattle.numeric.specs.Numeric.{all_in_range}
@@ -92,16 +97,18 @@ pub fit : (g : Grid) (rows room : ℕ) → grid_number g rows (room / 4) g.cols 
 fit g rows room e =
     let a = grid.accepted g rows (room / 4) g.cols e in record { ready = a.ready; order = omega arith; narrow = a.narrow }
 
-module _ (whole : Bool) (flag : ℕ) (g : Grid) (rows : ℕ) (out₀ : List ℕ) (k : ℕ) (is : k ≡ entry_number whole flag g rows (length out₀ / 4)) where
-  pub accepted : (n : ℕ) (out : List ℕ) → k ≡ 0 → Done as_bytes g 0 rows out₀ out n → Answered whole flag g rows out₀ out (n * 64)
-  accepted n out z d =
-      let e : entry_number whole flag g rows (length out₀ / 4) ≡ 0 = sym is ∙ z in
+module _ (whole : Bool) (flag : ℕ) (g : Grid) (rows : ℕ) (out₀ : List ℕ) where
+  pub accepted : (n : ℕ) (out : List ℕ) → 0 ≡ entry_number whole flag g rows (length out₀ / 4) → Done as_bytes g 0 rows out₀ out n → Answered whole flag g rows out₀ out (word_of itself (says (Ok n)))
+  unfolding as_word
+  accepted n out is d =
+      let e : entry_number whole flag g rows (length out₀ / 4) ≡ 0 = sym is in
       let r : rows - 0 ≡ rows = omega arith in
       let c : n ≡ count_to g rows = d.count ∙ rw r in
       record { answer = rw e (ap (λ (i : ℕ). i * 64) c); bytes = rw e (d.words ∙ rw (r, c)) }
 
-  pub refused : (k ≡ 0 → ⊥) → Answered whole flag g rows out₀ out₀ k
-  refused z = let e : eqb (entry_number whole flag g rows (length out₀ / 4)) 0 ≡ false = ne_eqb _ 0 (λ q. z (is ∙ q)) in record { answer = rw e is; bytes = rw e }
+  pub refused : (e : Refusal) → number_of e ≡ entry_number whole flag g rows (length out₀ / 4) → Answered whole flag g rows out₀ out₀ (word_of itself (says {A = ℕ} (Err e)))
+  unfolding as_word
+  refused e is = let k : eqb (entry_number whole flag g rows (length out₀ / 4)) 0 ≡ false = ne_eqb _ 0 (λ q. number_of-positive e (is ∙ q)) in record { answer = rw k is; bytes = rw k }
 
 -- ---- the number is the lowest that applies
 pub entry-lowest : EntryLowest

@@ -3,8 +3,8 @@ use Rattle.std.specs.Prelude.{◌≡◌, Bool, cond, not, ◌&&◌, ◌||◌, Li
 use Rattle.refusal.specs.Refusal.{Check, first_of, Lowest}
 use Rattle.params.specs.declared.ImDetectParams.{ImDetectParams}
 use Rattle.params.specs.declared.FrameBounds.{FrameBounds}
-use Rattle.params.specs.declared.WindowGroup.{WindowGroup}
-use Rattle.params.specs.declared.WindowGroup.TheVariants.{Missing, Group}
+use Rattle.std.specs.Prelude.{Option}
+use Rattle.std.specs.Prelude.{None, Some}
 use Rattle.tof.specs.declared.TofScale.{TofScale}
 use Rattle.row.specs.Written.{stride}
 use Rattle.gridrows.specs.Grid.{Grid, count_to, words_to}
@@ -49,8 +49,8 @@ all_whole used scans mobility weights out =
     eqb (used % 4) 0 && eqb (scans % 4) 0 && eqb (mobility % 4) 0 && eqb (weights % 4) 0 && eqb (out % 4) 0
 
 -- the window group: missing where its flag is 0
-abbrev pub group_of : ℕ → ℕ → WindowGroup
-group_of flag group = cond (eqb flag 0) Missing (Group group)
+abbrev pub group_of : ℕ → ℕ → Option ℕ
+group_of flag group = cond (eqb flag 0) None (Some group)
 
 abbrev pub bounds_of : ℕ → ℕ → ℕ → ℕ → ℕ → ℕ → FrameBounds
 bounds_of rt_lo rt_hi id_lo id_hi flag group =

@@ -3,16 +3,21 @@
 
 pub mod stitching;
 
-ghost use Rattle.std.specs.Prelude.{◌≡◌, ◌/◌, length};
+ghost use Rattle.std.specs.Prelude.{◌≡◌, ◌/◌, ◌<◌, ◌^◌, length};
+ghost use Rattle.refusal.specs.Numbered.{number_in, says};
+ghost use Rattle.entryword.specs.Word.{word_of, itself};
+ghost use Rattle.byterows.specs.Call.{bytes_in};
 ghost use Rattle.smoothrow.specs.SmoothRow.{sound_or_none};
 ghost use Rattle.grid.specs.GridNumber.{seen_in};
 ghost use Rattle.wordbytes.specs.Bytes.{words_of, floats_of};
 ghost use Rattle.capi.specs.Entry.{entry_number, used_bytes, all_whole, group_of, bounds_of, scale_of, params_of, Answered};
 ghost use Rattle.bytegrid.specs.ByteGrid.{byte_grid};
 
+use byterows::call::ByteCall;
 use grid::numbers::Seen;
-use params::{FrameBounds, ImDetectParams, WindowGroup};
+use params::{FrameBounds, ImDetectParams};
 use record::PeakId;
+use refusal::Refusal;
 use tof::TofScale;
 
 // ---- the numbers
@@ -52,98 +57,84 @@ fn see(used: &[u8], scans: &[u8], mobility: &[u8], weights: &[u8]) -> Seen
     }
 }
 
-// The number of a call; `room` is the length of the lent list, in bytes.
-fn call_number(
-    rows: usize,
-    cols: usize,
-    used: &[u8],
-    scans: &[u8],
-    scale: TofScale,
-    bounds: FrameBounds,
-    flag: u32,
-    mobility: &[u8],
-    p: ImDetectParams,
-    weights: &[u8],
-    first: PeakId,
-    room: usize,
-) -> u32
-    ensures { result ≡ entry_number (all_whole (length used.now) (length scans.now) (length mobility.now) (length weights.now) room) flag (byte_grid cols used.now scans.now scale bounds mobility.now p weights.now first) rows (room / 4) }
+// The number that refuses, or 0.
+fn number_in(found: Result<(), Refusal>) -> u32
+    ensures { result ≡ number_in found }
 {
-    let whole = (used.len() % 4 == 0)
-        & (scans.len() % 4 == 0)
-        & (mobility.len() % 4 == 0)
+    match found {
+        Ok(()) => 0,
+        Err(refusal) => refusal.number(),
+    }
+}
+
+// Refuses a call with the lowest number that applies; `room` is the length of the lent list, in bytes.
+fn check(
+    call: &ByteCall<'_>,
+    weights: &[u8],
+    rows: usize,
+    flag: u32,
+    room: usize,
+) -> Result<(), Refusal>
+    ensures { number_in result ≡ entry_number (all_whole (length call.now.used.now) (length call.now.scans.now) (length call.now.mobility.now) (length weights.now) room) flag (bytes_in call.now (floats_of weights.now)) rows (room / 4) }
+{
+    let whole = (call.used.len() % 4 == 0)
+        & (call.scans.len() % 4 == 0)
+        & (call.mobility.len() % 4 == 0)
         & (weights.len() % 4 == 0)
         & (room % 4 == 0);
     if !whole {
-        return 1;
+        return Err(Refusal::Lengths);
     }
-    let seen = see(used, scans, mobility, weights);
-    let n = grid::numbers::number(seen, rows, cols, scale, bounds, p, first, room / 4, cols);
-    if (flag > 1) & ((n == 0) | (n > 4)) {
-        return 4;
-    }
-    n
-}
-
-// The answer for the bytes of the readings that are worked on.
-fn answer(
-    rows: usize,
-    cols: usize,
-    used: &[u8],
-    scans: &[u8],
-    scale: TofScale,
-    bounds: FrameBounds,
-    flag: u32,
-    mobility: &[u8],
-    p: ImDetectParams,
-    weights: &[u8],
-    first: PeakId,
-    out: &mut [u8],
-) -> u64
-    ensures { Answered (all_whole (length used.now) (length scans.now) (length mobility.now) (length weights.now) (length out.old)) flag (byte_grid cols used.now scans.now scale bounds mobility.now p weights.now first) rows out.old out.new result }
-{
-    let no = call_number(
+    let seen = see(call.used, call.scans, call.mobility, weights);
+    let found = grid::numbers::check(
+        seen,
         rows,
-        cols,
-        used,
-        scans,
-        scale,
-        bounds,
-        flag,
-        mobility,
-        p,
-        weights,
-        first,
-        out.len(),
+        call.cols,
+        call.scale,
+        call.bounds,
+        call.params,
+        call.first,
+        room / 4,
+        call.cols,
     );
-    if no == 0 {
-        let n = bytegrid::sized::detect_bytes(
-            0, rows, cols, used, scans, scale, bounds, mobility, p, weights, first, out,
-        );
-        return (n as u64) * 64;
+    let n = number_in(found);
+    if (flag > 1) & ((n == 0) | (n > 4)) {
+        return Err(Refusal::Value);
     }
-    no as u64
+    found
 }
 
-fn group_of(flag: u32, group: u32) -> WindowGroup
+// The count of the peaks of all rows, whose records are then at the front of `out`.
+fn detect(
+    call: &ByteCall<'_>,
+    weights: &[u8],
+    rows: usize,
+    flag: u32,
+    out: &mut [u8],
+) -> Result<usize, Refusal>
+    ensures answered { Answered (all_whole (length call.now.used.now) (length call.now.scans.now) (length call.now.mobility.now) (length weights.now) (length out.old)) flag (bytes_in call.now (floats_of weights.now)) rows out.old out.new (word_of itself (says result)) }
+    ensures word { word_of itself (says result) < 2 ^ 64 }
+{
+    check(call, weights, rows, flag, out.len())?;
+    Ok(bytegrid::sized::detect_bytes(call, weights, 0, rows, out))
+}
+
+fn group_of(flag: u32, group: u32) -> Option<u32>
     ensures { result ≡ group_of flag group }
 {
-    if flag == 0 {
-        return WindowGroup::Missing;
-    }
-    WindowGroup::Group(group)
+    if flag == 0 { None } else { Some(group) }
 }
 
 // Writes the records of the peaks of all rows to the front of `out` and answers 64 times their count, or answers with a number
 // and leaves `out` as it is. Lists are words in bytes, the lowest byte first; empty raw readings, an empty mobility table and
 // empty weights mean that there are none.
 #[unsafe(no_mangle)]
-pub extern "C" fn rubzolena_detect_im_peaks(
+pub extern "C" fn rubzolena_detect_im_peaks<'a>(
     rows: usize,
     cols: usize,
-    data: &[u8],
-    data_raw: &[u8],
-    scans: &[u8],
+    data: &'a [u8],
+    data_raw: &'a [u8],
+    scans: &'a [u8],
     tof_min: u32,
     tof_max: u32,
     tof_step: u32,
@@ -154,11 +145,11 @@ pub extern "C" fn rubzolena_detect_im_peaks(
     frame_id_hi: u32,
     group_flag: u32,
     window_group: u32,
-    mobility: &[u8],
+    mobility: &'a [u8],
     min_prom: f32,
     min_distance_scans: u32,
     min_width_scans: u32,
-    weights: &[u8],
+    weights: &'a [u8],
     first: PeakId,
     out: &mut [u8],
 ) -> u64
@@ -168,30 +159,30 @@ pub extern "C" fn rubzolena_detect_im_peaks(
         (byte_grid cols (used_bytes data_raw.now «data».now) scans.now (scale_of tof_min tof_max tof_step num_bins) (bounds_of rt_lo rt_hi frame_id_lo frame_id_hi group_flag window_group) mobility.now (params_of min_prom min_distance_scans min_width_scans) weights.now first)
         rows out.old out.new result }
 {
-    let scale = TofScale {
-        tof_min,
-        tof_max,
-        tof_step,
-        num_bins,
+    let call = ByteCall {
+        cols,
+        used: if data_raw.len() == 0 { data } else { data_raw },
+        scans,
+        scale: TofScale {
+            tof_min,
+            tof_max,
+            tof_step,
+            num_bins,
+        },
+        bounds: FrameBounds {
+            rt_lo,
+            rt_hi,
+            frame_id_lo,
+            frame_id_hi,
+            window_group: group_of(group_flag, window_group),
+        },
+        mobility,
+        params: ImDetectParams {
+            min_prom,
+            min_distance_scans,
+            min_width_scans,
+        },
+        first,
     };
-    let bounds = FrameBounds {
-        rt_lo,
-        rt_hi,
-        frame_id_lo,
-        frame_id_hi,
-        window_group: group_of(group_flag, window_group),
-    };
-    let p = ImDetectParams {
-        min_prom,
-        min_distance_scans,
-        min_width_scans,
-    };
-    if data_raw.len() == 0 {
-        return answer(
-            rows, cols, data, scans, scale, bounds, group_flag, mobility, p, weights, first, out,
-        );
-    }
-    answer(
-        rows, cols, data_raw, scans, scale, bounds, group_flag, mobility, p, weights, first, out,
-    )
+    entryword::word_of(detect(&call, weights, rows, group_flag, out))
 }

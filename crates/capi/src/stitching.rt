@@ -4,7 +4,7 @@ ghost use Rattle.stitch.specs.Answer.{lent};
 ghost use Rattle.capi.specs.Stitching.{params_of, are_flags, Answered};
 
 use matching::StitchParams;
-use stitch::StitchAnswer;
+use passes::Lent;
 
 // Writes the records of the stitched peaks to the front of `out` and each peak's owner to the front of `owners`, and answers 64
 // times the count of stitched peaks; or answers with a number and leaves all six lists as they are.
@@ -43,11 +43,16 @@ pub extern "C" fn rubzolena_stitch_im_peaks(
         require_mutual_apex_inside: require_mutual_apex_inside == 1,
     };
     let told = (allow_cross_groups <= 1) & (require_mutual_apex_inside <= 1);
-    let answer = stitch::inner::stitch_told(
-        list, params, told, out, owners, order, groups, keys, merged,
-    );
-    match answer {
-        StitchAnswer::Stitched(n) => (n as u64) * 64,
-        StitchAnswer::Refused(no) => no as u64,
+    let lists = Lent {
+        out,
+        owners,
+        order,
+        groups,
+        keys,
+        merged,
+    };
+    match stitch::inner::stitch_told(list, params, told, lists) {
+        Ok(n) => (n as u64) * 64,
+        Err(refusal) => u64::from(refusal.number()),
     }
 }

@@ -12,8 +12,8 @@ use lib.IntN.{ℤ}
 use lib.Ieee.{Float, nan, inf, fin, lt, neg, is_nan, up, down}
 use lib.Ieee.Fits.{down_pos}
 use Rattle.numeric.specs.Numeric.{abs_f, max_f}
-use lib.ListN.{length, get_or, drop, take, set, length-append, length-take, drop_of_length-le}
-use lib.Seq.{drop-cons, take_at, take_all, set_at, get_or-take, get_or-set_same, get_or-set_other}
+use lib.ListN.{length, get_or, drop, take, set, length-append, drop_of_length-le}
+use lib.Seq.{drop-cons, take_at, take_all, set_at, get_or-set_same, get_or-set_other}
 use Rattle.chosen.specs.Chosen.{near_any, choose, choose_all, chosen}
 use Rattle.chosen.proofs.ChosenLaws.{choose-near, choose-far, chosen-next}
 
@@ -22,24 +22,21 @@ pub push : {A : Type 0} (P d : List A) (n : ℕ) (v z : A) → n ≡ length P �
 push P d n v z e h = rw (add-one, drop-cons d n z, append_assoc) (set_at P (get_or d n z) (drop (suc n) d) v n (sym e))
 
 module _ (near : ℕ → ℕ → Bool) where
-  module _ (p b n : ℕ) (out : List ℕ) (h : b < n) (l : n ≤ length out) where
-    rest : drop b (take n out) ≡ get_or out b 0 ∷ drop (b + 1) (take n out)
-    rest =
-        drop-cons (take n out) b 0 (simp length-take (omega arith))
-        ∙ ap (λ (x : ℕ). x ∷ drop (suc b) (take n out)) (get_or-take n out b 0 h)
-        ∙ ap (λ (k : ℕ). get_or out b 0 ∷ drop k (take n out)) (sym (add-one b))
+  module _ (p b : ℕ) (ks : List ℕ) (h : b < length ks) where
+    rest : drop b ks ≡ get_or ks b 0 ∷ drop (b + 1) ks
+    rest = rw add-one (drop-cons ks b 0 h)
 
-    pub near_step : near p (get_or out b 0) ≡ false → near_any near p (drop b (take n out)) ≡ near_any near p (drop (b + 1) (take n out))
+    pub near_step : near p (get_or ks b 0) ≡ false → near_any near p (drop b ks) ≡ near_any near p (drop (b + 1) ks)
     unfolding near_any
     near_step f = ap (near_any near p) rest ∙ rw f
 
-    pub near-hit : near p (get_or out b 0) ≡ true → near_any near p (drop b (take n out)) ≡ true
+    pub near-hit : near p (get_or ks b 0) ≡ true → near_any near p (drop b ks) ≡ true
     unfolding near_any
     near-hit f = ap (near_any near p) rest ∙ rw f
 
-  pub near_none : (p b n : ℕ) (out : List ℕ) → n ≤ b → near_any near p (drop b (take n out)) ≡ false
+  pub near_none : (p b : ℕ) (ks : List ℕ) → length ks ≤ b → near_any near p (drop b ks) ≡ false
   unfolding near_any
-  near_none p b n out h = rw (drop_of_length-le (take n out) {i = b} (simp length-take (omega arith)))
+  near_none p b ks h = rw (drop_of_length-le ks {i = b} h)
 
   module _ (order : List ℕ) where
     -- what is chosen among the first a stands at the front of the list d, and there are n of them

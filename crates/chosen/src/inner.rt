@@ -30,11 +30,9 @@ pub fn choose(order: &[u32], times: &[u32], sep: f32, out: &mut [u32]) -> usize
     ensures front { out.new ≡ chosen (near_in_time (time_of times.now) sep) order.now ++ drop result out.old }
 {
     let mut n = 0usize;
-    'outer: for a in 0..order.len() {
-        let p = order[a];
+    'outer: for &p in order {
         let time = time_of(times, p);
-        for b in 0..n {
-            let q = out[b];
+        for &q in &out[..n] {
             if is_near(time, time_of(times, q), sep) {
                 continue 'outer;
             }

@@ -101,12 +101,6 @@ module _ (g : ℕ → ℕ) where
   differ-none [] h = refl
   differ-none (x ∷ xs) h = absurd (omega arith)
 
-  -- the first number, and those behind it
-  pub differ-start : (l : List ℕ) → 0 < length l → neighbours_differ (map g l) ≡ differ_from (g (get_or l 0 0)) (map g (drop 1 l))
-  unfolding neighbours_differ
-  differ-start [] h = absurd (omega arith)
-  differ-start (x ∷ xs) h = refl
-
   -- one more
   pub rest-next : (l : List ℕ) (k : ℕ) → k < length l → map g (drop k l) ≡ g (get_or l k 0) ∷ map g (drop (k + 1) l)
   rest-next l k h = rw add-one (ap (map g) (drop-cons l k 0 h))

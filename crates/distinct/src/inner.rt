@@ -15,10 +15,7 @@ fn rise(list: &[u32], n: usize) -> bool
     ensures order { result ≡ true → by_identity (peaks_of list.now n) ≡ up_to n }
 {
     for k in 1..n {
-        if !record::inner::id_lt(
-            record::inner::im_id(list, k - 1),
-            record::inner::im_id(list, k),
-        ) {
+        if record::inner::im_id(list, k - 1) >= record::inner::im_id(list, k) {
             return false;
         }
     }
@@ -30,12 +27,12 @@ fn neighbours_differ(ids: &[u32], order: &[u32]) -> bool
     requires { (k : ℕ) → k < length order.now → get_or order.now k 0 < length ids.now }
     ensures { result ≡ neighbours_differ (map (λ p. get_or ids.now p 0) order.now) }
 {
-    if order.len() == 0 {
+    let Some((&first, rest)) = order.split_first() else {
         return true;
-    }
-    let mut last = ids[order[0] as usize];
-    for k in 1..order.len() {
-        let next = ids[order[k] as usize];
+    };
+    let mut last = ids[first as usize];
+    for &place in rest {
+        let next = ids[place as usize];
         if last == next {
             return false;
         }
@@ -75,31 +72,17 @@ fn by_order(
     false
 }
 
-// The same, with room for 1,024 and for 65,536.
-fn in_1024(list: &[u32], n: usize, to: &mut [u32]) -> bool
-    requires { (n * size ≤ length list.now) × (n ≤ 1024) × (length to.old ≤ n) }
+// The same, with room for N. It is not taken into its caller, so that lists that are shorter, or whose identities rise, do not pay for a
+// frame of 768 KiB.
+#[inline(never)]
+fn with_room<const N: usize>(list: &[u32], n: usize, to: &mut [u32]) -> bool
+    requires { (n * size ≤ length list.now) × (n ≤ N) × (N ≤ max_list) × (length to.old ≤ n) }
     ensures distinct { result ≡ distinct_ids (peaks_of list.now n) }
     ensures order { to.new ≡ cond result (take (length to.old) (by_identity (peaks_of list.now n))) to.old }
 {
-    let mut ids = [0u32; 1024];
-    let mut order = [0u32; 1024];
-    let mut spare = [0u32; 1024];
-    by_order(list, n, to, &mut ids, &mut order, &mut spare)
-}
-
-// Its first test is never met, as the promise asks. With it the function calls itself, so a compiler does not take it into its caller, and
-// lists that are shorter, or whose identities rise, do not pay for a frame of 768 KiB.
-fn in_65536(list: &[u32], n: usize, to: &mut [u32]) -> bool
-    requires { (n * size ≤ length list.now) × (n ≤ max_list) × (length to.old ≤ n) }
-    ensures distinct { result ≡ distinct_ids (peaks_of list.now n) }
-    ensures order { to.new ≡ cond result (take (length to.old) (by_identity (peaks_of list.now n))) to.old }
-{
-    if n > 65536 {
-        return !in_65536(list, 0, to);
-    }
-    let mut ids = [0u32; 65536];
-    let mut order = [0u32; 65536];
-    let mut spare = [0u32; 65536];
+    let mut ids = [0u32; N];
+    let mut order = [0u32; N];
+    let mut spare = [0u32; N];
     by_order(list, n, to, &mut ids, &mut order, &mut spare)
 }
 
@@ -114,9 +97,9 @@ fn put_first(list: &[u32], n: usize, to: &mut [u32]) -> bool
         return true;
     }
     if n <= 1024 {
-        return in_1024(list, n, to);
+        return with_room::<1024>(list, n, to);
     }
-    in_65536(list, n, to)
+    with_room::<65536>(list, n, to)
 }
 
 // Whether the first n identities are distinct: whether number 8 does not apply to them.
@@ -124,8 +107,7 @@ pub fn all_distinct(list: &[u32], n: usize) -> bool
     requires { (n * size ≤ length list.now) × (n ≤ max_list) }
     ensures { result ≡ distinct_ids (peaks_of list.now n) }
 {
-    let mut none = [0u32; 0];
-    put_first(list, n, &mut none)
+    put_first(list, n, &mut [])
 }
 
 // Whether the first n identities are distinct. If so, the places in the order of their identities are put to the front of `order`;

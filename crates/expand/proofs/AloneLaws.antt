@@ -3,15 +3,15 @@ use mathlib.Core.Path.{◌≡◌, refl, sym, ap, ◌∙◌, subst}
 use mathlib.Core.Bool.{Bool, true, false, cond, ◌&&◌}
 use mathlib.Core.List.{List, [], ◌∷◌, ◌++◌}
 use mathlib.Core.Option.{Option, none, some}
-use Prim.Native.Nat.{ℕ, zero, suc, ◌≤◌, ◌<◌, ◌+◌, ◌*◌, ◌/◌, ◌%◌, min}
+use Prim.Native.Nat.{ℕ, ◌≤◌, ◌<◌, ◌+◌, ◌*◌, ◌/◌, ◌%◌, min}
 use native.Mathlib.Omega.{arith}
-use borrow.Author.Tests.{eq-eqb, ne_eqb, eqb-true, leb-true, leb-false, not-false}
+use borrow.Author.Tests.{eq-eqb, eqb-true, leb-true, leb-false, not-false}
 use lib.Dec.{leb, eqb}
-use lib.ListN.{length, get_or, take, drop, length-take}
+use lib.ListN.{length, take, drop}
 use lib.Seq.{take_all, length-take-le}
 use lib.Ieee.{Float}
 use Rattle.refusal.specs.Refusal.{first_of}
-use Rattle.refusal.specs.Answers.{Says, answer_by}
+use Rattle.refusal.specs.Answers.{answer_by}
 use Rattle.refusal.proofs.Bools.{both, all4}
 use Rattle.limits.specs.Limits.{max_reading, max_list}
 use Rattle.numeric.proofs.Laws.{and-true}
@@ -26,11 +26,12 @@ use Rattle.rtrecord.specs.RtRecord.{rt_size}
 use Rattle.rtrecord.specs.declared.RtPeak1D.{RtPeak1D}
 use Rattle.expandtrace.specs.FallbackPeaks.{peak_words}
 use Rattle.expandpeak.specs.Expanded.{Run, expanded}
-use Rattle.expandmany.specs.Many.{Many, many_of, sum_to, weights_at, joined_to}
-use Rattle.expandnumbers.specs.ExpandNumber.{expand_checks, paired_axes, sum_of, sums_to, all_weights, sound_values, rising_axes, enough_room, enough_scratch}
-use Rattle.expand.specs.declared.ExpandAnswer.{ExpandAnswer}
+use Rattle.expandmany.specs.Many.{many_of, sum_to, weights_at, joined_to}
+use Rattle.expandnumbers.specs.ExpandNumber.{expand_checks, paired_axes, sum_of, all_weights, sound_values, rising_axes, enough_room, enough_scratch}
+use Rattle.refusal.specs.declared.Refusal.{Refusal}
+use Rattle.std.specs.Prelude.{Result}
 use Rattle.expand.proofs.CallLaws.{none-for}
-use Rattle.expand.specs.ExpandCall.{Lent, expand_says, peaks_in, many_asks, many_number, ManyAnswered, alone, one_number, peaks_of, OneAnswered}
+use Rattle.expand.specs.ExpandCall.{Lent, many_asks, many_number, ManyAnswered, alone, one_number, peaks_of, OneAnswered}
 
 -- ---- the first 258 weights tell whether all are sound
 unsound : (l : List Float) → 257 < length l → sound_weights l ≡ false
@@ -120,7 +121,7 @@ module _ (run : Run) (e : RtExpandParams) (peak : List ℕ) (ws : List Float) (f
       ∙ joined-alone run e peak (cut_to ws) first
       ∙ ap (λ (l : List Float). peaks_of run e peak l first) (cut-whole ws (few-weights run e peak first was ws z))
 
-  one-answered : (lengths counts₀ counts : List ℕ) (r : ExpandAnswer) → lengths ≡ length (cut_to ws) ∷ [] → length counts₀ ≡ 1
+  one-answered : (lengths counts₀ counts : List ℕ) (r : Result ℕ Refusal) → lengths ≡ length (cut_to ws) ∷ [] → length counts₀ ≡ 1
       → ManyAnswered (many_of run e peak (cut_to ws) lengths first) was is counts₀ counts r → OneAnswered run e peak ws first was is r
   one-answered lengths counts₀ counts r el ec a =
       let m = alone run e peak (cut_to ws) first in
@@ -138,7 +139,7 @@ module _ (run : Run) (e : RtExpandParams) (peak : List ℕ) (ws : List Float) (f
       }
 
   -- with k weights handed on, as many as are looked at
-  pub one-answered-by : (k : ℕ) (counts₀ counts : List ℕ) (r : ExpandAnswer) → k ≡ min (length ws) 258 → length counts₀ ≡ 1
+  pub one-answered-by : (k : ℕ) (counts₀ counts : List ℕ) (r : Result ℕ Refusal) → k ≡ min (length ws) 258 → length counts₀ ≡ 1
       → ManyAnswered (many_of run e peak (take k ws) (k ∷ []) first) was is counts₀ counts r → OneAnswered run e peak ws first was is r
   one-answered-by k counts₀ counts r ek ec a =
       let cut = min (length ws) 258 in

@@ -1,19 +1,17 @@
 -- What holds of a call of expansion to which no number applies.
 use mathlib.Core.Path.{◌≡◌, refl, sym, ap, ◌∙◌, subst}
-use mathlib.Core.Bool.{Bool, true, false, not, ◌&&◌, ◌||◌}
+use mathlib.Core.Bool.{Bool, true, false, not, ◌||◌}
 use mathlib.Core.List.{List, [], ◌∷◌, ◌++◌}
 use Prim.Native.Nat.{ℕ, zero, suc, ◌≤◌, ◌<◌, ◌+◌, ◌-◌, ◌*◌, ◌/◌, ◌%◌}
-use native.Mathlib.Nat.{le-div_iff_mul-le, mul_comm, le_of_eq}
-use native.Mathlib.Numerals.{add-one}
+use native.Mathlib.Nat.{le-div_iff_mul-le, le_of_eq}
 use native.Mathlib.Omega.{arith}
-use borrow.Author.Tests.{not-false, not-true, eqb-true, eqb-false, leb-true, ltb-false, ltb-true}
+use borrow.Author.Tests.{not-false, not-true, eqb-true, eqb-false, leb-true, ltb-false}
 use lib.Dec.{leb, ltb, eqb, lit<, lit≤}
 use lib.ListN.{length, get_or, take, drop}
 use lib.Seq.{drop-drop}
 use lib.Ieee.{Float}
 use Rattle.refusal.specs.Refusal.{first_of, ascending_from}
 use Rattle.refusal.proofs.RefusalLaws.{none-by, applies_for}
-use Rattle.refusal.proofs.AnswersLaws.{says-number, says-values}
 use Rattle.refusal.proofs.Bools.{clash, both, all3, all4, neither}
 use Rattle.limits.specs.Limits.{max_reading, max_frames, max_points, max_count, max_seconds, max_scan, max_list, identities}
 use Rattle.numeric.specs.Numeric.{all_in_range}
@@ -22,23 +20,24 @@ use Rattle.smoothing.specs.Smoothing.{sound_weights}
 use Rattle.params.specs.Params.{rising, all_up_to}
 use Rattle.record.specs.Record.{size, peak_at, sound, all_sound}
 use Rattle.tof.specs.Tof.{sound_step, sound_ends, agreeing}
-use Rattle.rttime.specs.Time.{never_falls}
 use Rattle.frameindex.specs.declared.inner.Seen.{Seen}
 use Rattle.frameindex.specs.FrameIndex.{Index, agreeing as index_agrees, too_large, frames, points, sound_index, seen_in}
 use Rattle.rtparams.specs.Expand.{sound_expand}
 use Rattle.rtparams.specs.declared.RtExpandParams.{RtExpandParams}
 use Rattle.rtrecord.specs.RtRecord.{rt_size}
 use Rattle.expandwindow.proofs.WindowLaws.{sound-numbers}
-use Rattle.expandpeak.specs.Expanded.{Run}
 use Rattle.expandone.specs.Steps.{most, max_summed, Followed}
 use Rattle.expandtrace.specs.FallbackPeaks.{peak_words}
 use Rattle.expandmany.specs.Many.{Many, sum_to, weights_at, joined_to}
 use Rattle.expandmany.specs.Steps.{Ready, Done}
 use Rattle.expandnumbers.specs.declared.inner.Asked.{Asked}
-use Rattle.expandnumbers.specs.ExpandNumber.{expand_checks, paired_axes, sum_of, sums_to, all_weights, sound_values, rising_axes, enough_room, enough_scratch}
-use Rattle.expand.specs.declared.ExpandAnswer.TheVariants.{RtPeaks, Refused}
+use Rattle.expandnumbers.specs.ExpandNumber.{expand_checks, sum_of, sums_to, all_weights, sound_values, rising_axes, enough_room}
+use Rattle.refusal.specs.declared.Refusal.{Refusal}
+use Rattle.refusal.specs.Numbered.{number_of}
+use Rattle.refusal.proofs.NumberedLaws.{says-ok, says-err, number_of-positive}
+use Rattle.std.specs.Prelude.{Ok, Err}
 use Rattle.expand.specs.ExpandCall.{Lent, frames_of, peaks_in, many_asks, many_number, PastKept, ManyAnswered}
-use Rattle.expand.specs.Steps.{Lendable, many_number_by}
+use Rattle.expand.specs.Steps.{Lendable}
 
 -- ---- where the number is 0, a check with a number does not apply
 pub ascending : (s : Seen) (a : Asked) → ascending_from 0 (expand_checks s a) ≡ true
@@ -209,20 +208,14 @@ module _ (m : Many) (was : Lent) (counts : ℕ) (none : many_number m was counts
       let most = ltb-false max_frames (frames ix) few.0 in
       omega arith
 
--- the number by the lengths of the lent lists
-pub number_is : (m : Many) (was : Lent) (counts : ℕ)
-    → many_number m was counts ≡ many_number_by m (record { out = length was.out; counts = counts; raw = length was.raw; smooth = length was.smooth; order = length was.order })
-unfolding many_number many_asks
-number_is m was counts = refl
-
 -- ---- the answer
 module _ (m : Many) (was is : Lent) (counts₀ counts : List ℕ) where
   -- to a call with number 0 whose peaks were expanded
   pub answered : (r : ℕ) → many_number m was (length counts₀) ≡ 0 → Done m (peaks_in m) was.out counts₀ r is.out counts → PastKept (frames_of m.run) was is
-      → ManyAnswered m was is counts₀ counts (RtPeaks r)
+      → ManyAnswered m was is counts₀ counts (Ok r)
   answered r none d p =
       record {
-        answered = says-values (length (joined_to m (peaks_in m))) (sym none) refl d.peaks.count;
+        answered = says-ok (length (joined_to m (peaks_in m))) (sym none) d.peaks.count;
         accepted = λ z. record {
           words = d.peaks.words ∙ ap (λ (k : ℕ). peak_words (joined_to m (peaks_in m)) ++ drop (k * rt_size) was.out) d.peaks.count;
           column = d.counted;
@@ -232,10 +225,10 @@ module _ (m : Many) (was is : Lent) (counts₀ counts : List ℕ) where
       }
 
 -- to one with another number
-pub refused : (m : Many) (was : Lent) (counts : List ℕ) (k : ℕ) → k ≡ many_number m was (length counts) → (k ≡ 0 → ⊥) → ManyAnswered m was was counts counts (Refused k)
-refused m was counts k e z =
+pub refused : (m : Many) (was : Lent) (counts : List ℕ) (r : Refusal) → number_of r ≡ many_number m was (length counts) → ManyAnswered m was was counts counts (Err r)
+refused m was counts r e =
     record {
-      answered = says-number (length (joined_to m (peaks_in m))) e z;
-      accepted = λ h. absurd (z (e ∙ h));
+      answered = says-err r (length (joined_to m (peaks_in m))) e;
+      accepted = λ h. absurd (number_of-positive r (e ∙ h));
       refused = λ h. (refl, refl);
     }

@@ -1,8 +1,7 @@
 -- Expansion's second call: which number it is answered with, and what is left of it.
-use Rattle.std.specs.Prelude.{◌≡◌, Bool, true, ◌&&◌, List, [], ◌∷◌, ◌++◌, ℕ, ◌*◌, ◌/◌, ◌%◌, leb, eqb, length, drop, Float}
-use Rattle.std.proofs.Math.Option.{none, some}
+use Rattle.std.specs.Prelude.{Result, ◌≡◌, ◌&&◌, List, [], ◌∷◌, ◌++◌, ℕ, ◌*◌, ◌/◌, ◌%◌, leb, eqb, length, drop, Float}
 use Rattle.refusal.specs.Refusal.{first_of}
-use Rattle.refusal.specs.Answers.{Says, answer_by}
+use Rattle.refusal.specs.Answers.{answer_by}
 use Rattle.limits.specs.Limits.{max_reading, max_list}
 use Rattle.record.specs.Record.{size, peak_at, all_sound}
 use Rattle.tof.specs.Tof.{sound_ends, agreeing}
@@ -16,13 +15,8 @@ use Rattle.expandone.specs.Steps.{most}
 use Rattle.expandmany.specs.Many.{Many, many_of, joined_to, counts_to}
 use Rattle.expandnumbers.specs.declared.inner.Asked.{Asked}
 use Rattle.expandnumbers.specs.ExpandNumber.{expand_checks, paired_axes, sums_to, all_weights, sound_values, rising_axes, enough_room, enough_scratch}
-use Rattle.expand.specs.declared.ExpandAnswer.{ExpandAnswer}
-use Rattle.expand.specs.declared.ExpandAnswer.TheVariants.{RtPeaks, Refused}
-
--- what an answer says: how many retention peaks there are, or the number that applies
-abbrev pub expand_says : ExpandAnswer → Says ℕ
-expand_says (RtPeaks n) = record { number = 0; values = some n }
-expand_says (Refused n) = record { number = n; values = none }
+use Rattle.refusal.specs.Numbered.{says}
+use Rattle.refusal.specs.declared.Refusal.{Refusal}
 
 -- the frames of a run
 abbrev pub frames_of : Run → ℕ
@@ -82,8 +76,8 @@ pub record ManyWritten (m : Many) (was is : Lent) (counts₀ counts : List ℕ) 
   pub past : PastKept (frames_of m.run) was is
 
 -- The answer, and what the lists hold then. Accepted, with number 0: what is written. Refused: all as it was.
-pub record ManyAnswered (m : Many) (was is : Lent) (counts₀ counts : List ℕ) (answer : ExpandAnswer) : Type 0 where
-  pub answered : expand_says answer ≡ answer_by (many_number m was (length counts₀)) (length (joined_to m (peaks_in m)))
+pub record ManyAnswered (m : Many) (was is : Lent) (counts₀ counts : List ℕ) (answer : Result ℕ Refusal) : Type 0 where
+  pub answered : says answer ≡ answer_by (many_number m was (length counts₀)) (length (joined_to m (peaks_in m)))
   pub accepted : many_number m was (length counts₀) ≡ 0 → ManyWritten m was is counts₀ counts
   pub refused : (many_number m was (length counts₀) ≡ 0 → ⊥) → (is ≡ was) × (counts ≡ counts₀)
 
@@ -107,7 +101,7 @@ pub record OneWritten (run : Run) (ps : List RtPeak1D) (was is : Lent) : Type 0 
   pub past : PastKept (frames_of run) was is
 
 -- The answer, and what the lists hold then.
-pub record OneAnswered (run : Run) (e : RtExpandParams) (peak : List ℕ) (ws : List Float) (first : ℕ) (was is : Lent) (answer : ExpandAnswer) : Type 0 where
-  pub answered : expand_says answer ≡ answer_by (one_number run e peak ws first was) (length (peaks_of run e peak ws first))
+pub record OneAnswered (run : Run) (e : RtExpandParams) (peak : List ℕ) (ws : List Float) (first : ℕ) (was is : Lent) (answer : Result ℕ Refusal) : Type 0 where
+  pub answered : says answer ≡ answer_by (one_number run e peak ws first was) (length (peaks_of run e peak ws first))
   pub accepted : one_number run e peak ws first was ≡ 0 → OneWritten run (peaks_of run e peak ws first) was is
   pub refused : (one_number run e peak ws first was ≡ 0 → ⊥) → is ≡ was

@@ -1,43 +1,28 @@
 // The numbers of expansion's second call.
 ghost use Rattle.std.specs.Prelude.{◌≡◌, ◌&&◌, ◌/◌, ◌%◌, eqb, length};
+ghost use Rattle.refusal.specs.Numbered.{number_in};
 ghost use Rattle.record.specs.Record.{size, all_sound};
-ghost use Rattle.framesums.specs.Steps.{index_of};
 ghost use Rattle.expandnumbers.specs.ExpandNumber.{sums_to, paired_axes};
-ghost use Rattle.expandpeak.specs.Expanded.{run_of};
-ghost use Rattle.expandmany.specs.Many.{many_of};
+ghost use Rattle.expandmany.specs.Calls.{many_lent};
 ghost use Rattle.expand.specs.ExpandCall.{many_asks, many_number};
-ghost use Rattle.expand.specs.Steps.{many_asks_by, many_number_by};
+ghost use Rattle.expand.specs.Lists.{lent_in};
 
+use super::lent::Lent;
+use expandmany::peaks::PeakList;
 use expandnumbers::inner::Asked;
-use record::{ImPeak1D, PeakId};
+use expandone::run::Run;
+use record::ImPeak1D;
+use refusal::Refusal;
 use rtparams::RtExpandParams;
-use tof::TofScale;
 
-// The lengths of the lent lists.
-#[derive(Clone, Copy)]
-pub struct Rooms {
-    pub out: usize,
-    pub counts: usize,
-    pub raw: usize,
-    pub smooth: usize,
-    pub order: usize,
-}
-
-// Whether lists that belong together have lengths that agree.
-fn same_lengths(
-    list: &[u32],
-    lengths: &[u32],
-    weights: usize,
-    starts: usize,
-    ids: usize,
-    times: usize,
-) -> bool
-    ensures { result ≡ (eqb (length list.now % size) 0 && eqb (length lengths.now) (length list.now / size) && sums_to lengths.now weights && paired_axes starts ids times) }
+// Whether lists that belong together have lengths that agree; `starts` is the count of starts.
+fn same_lengths(run: &Run<'_>, starts: usize, peaks: &PeakList<'_>) -> bool
+    ensures { result ≡ (eqb (length peaks.now.list.now % size) 0 && eqb (length peaks.now.lengths.now) (length peaks.now.list.now / size) && sums_to peaks.now.lengths.now (length peaks.now.weights.now) && paired_axes starts (length run.now.ids.now) (length run.now.times.now)) }
 {
-    (list.len() % ImPeak1D::WORDS == 0)
-        & (lengths.len() == list.len() / ImPeak1D::WORDS)
-        & expandnumbers::inner::sums_to(lengths, weights)
-        & expandnumbers::inner::paired_axes(starts, ids, times)
+    (peaks.list.len() % ImPeak1D::WORDS == 0)
+        & (peaks.lengths.len() == peaks.list.len() / ImPeak1D::WORDS)
+        & expandnumbers::inner::sums_to(peaks.lengths, peaks.weights.len())
+        & expandnumbers::inner::paired_axes(starts, run.ids.len(), run.times.len())
 }
 
 // Whether all records of a list are sound.
@@ -47,69 +32,61 @@ fn sound_records(list: &[u32]) -> bool
     record::inner::all_sound(list, list.len() / ImPeak1D::WORDS)
 }
 
-// What a call is asked besides its index; `starts` is the count of starts.
+// What a call is asked besides its index; `counts` is the length of the column of counts.
+#[tactic(auto, unfolding(crate::specs::ExpandCall::many_asks))]
 fn many_asks(
-    list: &[u32],
-    starts: usize,
-    ids: &[u32],
-    times: &[f32],
-    scale: TofScale,
+    run: &Run<'_>,
     e: RtExpandParams,
-    weights: &[f32],
-    lengths: &[u32],
-    first: PeakId,
-    room: Rooms,
+    peaks: &PeakList<'_>,
+    lent: &Lent<'_>,
+    counts: usize,
 ) -> Asked
-    ensures { result ≡ many_asks_by list.now starts ids.now times.now scale e weights.now lengths.now first room }
+    ensures { result ≡ many_asks (many_lent run.now e peaks.now) (lent_in lent.now) counts }
 {
-    let n = list.len() / ImPeak1D::WORDS;
-    let f = ids.len();
+    let n = peaks.list.len() / ImPeak1D::WORDS;
+    let f = run.ids.len();
     let most = expandnumbers::inner::most_of(f);
+    let index = run.index;
+    let scale = run.scale;
     Asked {
-        lengths: same_lengths(list, lengths, weights.len(), starts, f, times.len()),
+        lengths: same_lengths(run, index.starts.len(), peaks),
         sizes: n <= limits::MAX_LIST,
-        values: expandnumbers::inner::sound_values(e, scale.tof_step, times, first, n, most),
+        values: expandnumbers::inner::sound_values(
+            e,
+            scale.tof_step,
+            run.times,
+            peaks.first,
+            n,
+            most,
+        ),
         tofs: tof::inner::sound_ends(scale),
-        weights: expandnumbers::inner::all_weights(lengths, weights),
-        axes: expandnumbers::inner::rising_axes(ids, times),
-        records: sound_records(list),
-        room: expandnumbers::inner::enough_room(n, most, room.out) & (n <= room.counts),
-        scratch: expandnumbers::inner::enough_scratch(f, room.raw, room.smooth, room.order),
+        weights: expandnumbers::inner::all_weights(peaks.lengths, peaks.weights),
+        axes: expandnumbers::inner::rising_axes(run.ids, run.times),
+        records: sound_records(peaks.list),
+        room: expandnumbers::inner::enough_room(n, most, lent.out.len()) & (n <= counts),
+        scratch: expandnumbers::inner::enough_scratch(
+            f,
+            lent.raw.len(),
+            lent.smooth.len(),
+            lent.order.len(),
+        ),
         scale: tof::inner::agrees(scale),
     }
 }
 
-// The lowest number that applies, or 0.
-pub fn many_number(
-    list: &[u32],
-    starts: &[u32],
-    bins: &[u32],
-    offsets: &[u32],
-    scans: &[u32],
-    readings: &[f32],
-    ids: &[u32],
-    times: &[f32],
-    scale: TofScale,
+// Refuses with the lowest number that applies.
+#[tactic(auto, unfolding(crate::specs::ExpandCall::many_number))]
+pub fn check(
+    run: &Run<'_>,
     e: RtExpandParams,
-    weights: &[f32],
-    lengths: &[u32],
-    first: PeakId,
-    room: Rooms,
-) -> u32
-    ensures { result ≡ many_number_by (many_of (run_of (index_of starts.now bins.now offsets.now scans.now readings.now) ids.now times.now scale) e list.now weights.now lengths.now first) room }
+    peaks: &PeakList<'_>,
+    lent: &Lent<'_>,
+    counts: usize,
+) -> Result<(), Refusal>
+    ensures { number_in result ≡ many_number (many_lent run.now e peaks.now) (lent_in lent.now) counts }
 {
-    let seen = frameindex::inner::see(limits::MAX_READING, starts, bins, offsets, scans, readings);
-    let asked = many_asks(
-        list,
-        starts.len(),
-        ids,
-        times,
-        scale,
-        e,
-        weights,
-        lengths,
-        first,
-        room,
-    );
-    expandnumbers::inner::number(seen, asked)
+    let index = run.index;
+    let seen = index.see(limits::MAX_READING);
+    let asked = many_asks(run, e, peaks, lent, counts);
+    expandnumbers::inner::check(seen, asked)
 }

@@ -1,122 +1,75 @@
 // The lists of the search, in two sizes, since an array is filled before it is used.
 ghost use Rattle.std.specs.Prelude.{◌≤◌, length};
 ghost use Rattle.limits.specs.Limits.{max_frames};
-ghost use Rattle.framesums.specs.Steps.{index_of};
-ghost use Rattle.expandpeak.specs.Expanded.{run_of};
-ghost use Rattle.expandmany.specs.Many.{many_of};
+ghost use Rattle.rowsearch.specs.Room.{Sizes};
+ghost use Rattle.expandmany.specs.Calls.{many_in};
 ghost use Rattle.expandmany.specs.Steps.{Ready, Done};
 ghost use Rattle.expand.specs.Steps.{Lendable};
 
-use record::PeakId;
-use rtparams::RtExpandParams;
-use tof::TofScale;
+use expandmany::peaks::PeakList;
+use expandone::run::FollowedRun;
+use expandone::scratch::RunScratch;
+use expandpeak::scratch::TraceScratch;
+use rowsearch::scratch::Scratch;
 
-// Expands n mobility peaks, with room for a run of 1,024 frames.
-fn expand_in_1024(
-    list: &[u32],
+// Expands n mobility peaks, with room for a run of N frames. It is no part of its caller, so that shorter runs do not pay for the lists of
+// longer ones.
+#[inline(never)]
+fn expand_in<const N: usize, const B: usize, const F: usize>(
+    run: &FollowedRun<'_>,
+    peaks: &PeakList<'_>,
     n: usize,
-    starts: &[u32],
-    bins: &[u32],
-    offsets: &[u32],
-    scans: &[u32],
-    readings: &[f32],
-    ids: &[u32],
-    times: &[f32],
-    scale: TofScale,
-    e: RtExpandParams,
-    weights: &[f32],
-    lengths: &[u32],
-    first: PeakId,
     out: &mut [u32],
     counts: &mut [u32],
     raw: &mut [f32],
     smooth: &mut [f32],
     order: &mut [u32],
 ) -> usize
-    requires { Ready (many_of (run_of (index_of starts.now bins.now offsets.now scans.now readings.now) ids.now times.now scale) e list.now weights.now lengths.now first) n (length out.old) (length counts.old)
-        × Lendable (length ids.now) (length raw.old) (length smooth.old) (length order.old) × (length ids.now ≤ 1024) }
-    ensures { Done (many_of (run_of (index_of starts.now bins.now offsets.now scans.now readings.now) ids.now times.now scale) e list.now weights.now lengths.now first) n out.old counts.old result out.new counts.new }
+    requires run { Ready (many_in run.now peaks.now) n (length out.old) (length counts.old)
+        × Lendable (length run.now.ids.now) (length raw.old) (length smooth.old) (length order.old) × (length run.now.ids.now ≤ N) }
+    requires sizes { Sizes N B F }
+    ensures { Done (many_in run.now peaks.now) n out.old counts.old result out.new counts.new }
 {
-    let mut turns = [0u32; 1024];
-    let mut bases = [0u32; 800];
-    let mut found = [0u32; 4096];
-    let mut near = [0u32; 1024];
-    expandmany::inner::expand_peaks(
-        list, n, starts, bins, offsets, scans, readings, ids, times, scale, e, weights, lengths,
-        first, out, counts, raw, smooth, &mut turns, &mut bases, &mut found, order, &mut near,
-    )
-}
-
-// Expands n mobility peaks, with room for a run of 16,384 frames.
-fn expand_in_16384(
-    list: &[u32],
-    n: usize,
-    starts: &[u32],
-    bins: &[u32],
-    offsets: &[u32],
-    scans: &[u32],
-    readings: &[f32],
-    ids: &[u32],
-    times: &[f32],
-    scale: TofScale,
-    e: RtExpandParams,
-    weights: &[f32],
-    lengths: &[u32],
-    first: PeakId,
-    out: &mut [u32],
-    counts: &mut [u32],
-    raw: &mut [f32],
-    smooth: &mut [f32],
-    order: &mut [u32],
-) -> usize
-    requires { Ready (many_of (run_of (index_of starts.now bins.now offsets.now scans.now readings.now) ids.now times.now scale) e list.now weights.now lengths.now first) n (length out.old) (length counts.old)
-        × Lendable (length ids.now) (length raw.old) (length smooth.old) (length order.old) × (length ids.now ≤ max_frames) }
-    ensures { Done (many_of (run_of (index_of starts.now bins.now offsets.now scans.now readings.now) ids.now times.now scale) e list.now weights.now lengths.now first) n out.old counts.old result out.new counts.new }
-{
-    let mut turns = [0u32; 16384];
-    let mut bases = [0u32; 8480];
-    let mut found = [0u32; 65536];
-    let mut near = [0u32; 16384];
-    expandmany::inner::expand_peaks(
-        list, n, starts, bins, offsets, scans, readings, ids, times, scale, e, weights, lengths,
-        first, out, counts, raw, smooth, &mut turns, &mut bases, &mut found, order, &mut near,
-    )
+    let mut turns = [0u32; N];
+    let mut bases = [0u32; B];
+    let mut found = [0u32; F];
+    let mut near = [0u32; N];
+    let search = Scratch {
+        samples: run.ids.len(),
+        turns: &mut turns,
+        bases: &mut bases,
+        found: &mut found,
+    };
+    let trace = TraceScratch {
+        smooth,
+        search,
+        order,
+    };
+    let mut scratch = RunScratch {
+        raw,
+        near: &mut near,
+        trace,
+    };
+    expandmany::inner::expand_peaks(run, peaks, n, &mut scratch, out, counts)
 }
 
 // The same for any run of at most 16,384 frames.
 pub fn expand_sized(
-    list: &[u32],
+    run: &FollowedRun<'_>,
+    peaks: &PeakList<'_>,
     n: usize,
-    starts: &[u32],
-    bins: &[u32],
-    offsets: &[u32],
-    scans: &[u32],
-    readings: &[f32],
-    ids: &[u32],
-    times: &[f32],
-    scale: TofScale,
-    e: RtExpandParams,
-    weights: &[f32],
-    lengths: &[u32],
-    first: PeakId,
     out: &mut [u32],
     counts: &mut [u32],
     raw: &mut [f32],
     smooth: &mut [f32],
     order: &mut [u32],
 ) -> usize
-    requires { Ready (many_of (run_of (index_of starts.now bins.now offsets.now scans.now readings.now) ids.now times.now scale) e list.now weights.now lengths.now first) n (length out.old) (length counts.old)
-        × Lendable (length ids.now) (length raw.old) (length smooth.old) (length order.old) × (length ids.now ≤ max_frames) }
-    ensures { Done (many_of (run_of (index_of starts.now bins.now offsets.now scans.now readings.now) ids.now times.now scale) e list.now weights.now lengths.now first) n out.old counts.old result out.new counts.new }
+    requires { Ready (many_in run.now peaks.now) n (length out.old) (length counts.old)
+        × Lendable (length run.now.ids.now) (length raw.old) (length smooth.old) (length order.old) × (length run.now.ids.now ≤ max_frames) }
+    ensures { Done (many_in run.now peaks.now) n out.old counts.old result out.new counts.new }
 {
-    if ids.len() <= 1024 {
-        return expand_in_1024(
-            list, n, starts, bins, offsets, scans, readings, ids, times, scale, e, weights,
-            lengths, first, out, counts, raw, smooth, order,
-        );
+    if run.ids.len() <= 1024 {
+        return expand_in::<1024, 800, 4096>(run, peaks, n, out, counts, raw, smooth, order);
     }
-    expand_in_16384(
-        list, n, starts, bins, offsets, scans, readings, ids, times, scale, e, weights, lengths,
-        first, out, counts, raw, smooth, order,
-    )
+    expand_in::<16384, 8480, 65536>(run, peaks, n, out, counts, raw, smooth, order)
 }

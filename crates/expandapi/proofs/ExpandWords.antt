@@ -15,9 +15,11 @@ use Rattle.rtparams.specs.declared.RtExpandParams.{RtExpandParams}
 use Rattle.expandpeak.specs.Expanded.{Run}
 use Rattle.expandmany.specs.Many.{Many, joined_to}
 use Rattle.expandnumbers.specs.ExpandNumber.{expand_checks}
-use Rattle.expand.specs.declared.ExpandAnswer.{ExpandAnswer}
-use Rattle.expand.specs.ExpandCall.{expand_says, Lent, peaks_in, many_asks, many_number, ManyAnswered, alone, one_number, peaks_of, OneAnswered}
-use Rattle.expand.proofs.ExpandLaws.{expand-which}
+use Rattle.std.specs.Prelude.{Result}
+use Rattle.refusal.specs.declared.Refusal.{Refusal}
+use Rattle.refusal.specs.Numbered.{says}
+use Rattle.refusal.proofs.NumberedLaws.{which}
+use Rattle.expand.specs.ExpandCall.{Lent, peaks_in, many_asks, many_number, ManyAnswered, alone, one_number, peaks_of, OneAnswered}
 use Rattle.entryword.specs.Word.{word_of, itself}
 use Rattle.entryword.proofs.Words.{below, first_below, word_fits, word-told}
 use Rattle.expandapi.specs.Expansion.{many_count, ManyTold, ManyWordTold, one_count, OneTold, OneWordTold}
@@ -38,18 +40,18 @@ few ps was is e kept =
 pub many-told : ManyWordTold
 many-told m was counts = word-told itself (many_number m was counts) (many_count m) (number_small m was counts)
 
-module _ {m : Many} {was is : Lent} {counts₀ counts : List ℕ} {r : ExpandAnswer} (a : ManyAnswered m was is counts₀ counts r) where
-  pub many-fits : length is.out ≡ length was.out → length was.out < 2 ^ 61 → word_of itself (expand_says r) < 2 ^ 64
+module _ {m : Many} {was is : Lent} {counts₀ counts : List ℕ} {r : Result ℕ Refusal} (a : ManyAnswered m was is counts₀ counts r) where
+  pub many-fits : length is.out ≡ length was.out → length was.out < 2 ^ 61 → word_of itself (says r) < 2 ^ 64
   many-fits kept short =
       rw a.answered
       (word_fits itself (many_number m was (length counts₀)) (many_count m) (number_small m was (length counts₀))
       (λ z. omega (arith, few (joined_to m (peaks_in m)) was.out is.out (a.accepted z).words kept, short)))
 
-  pub many-word : (w : ℕ) → w ≡ word_of itself (expand_says r) → ManyTold m was is counts₀ counts w
+  pub many-word : (w : ℕ) → w ≡ word_of itself (says r) → ManyTold m was is counts₀ counts w
   many-word w e =
       record {
         word = e ∙ ap (word_of itself) a.answered;
-        lists = subst (λ (x : ExpandAnswer). ManyAnswered m was is counts₀ counts x) (expand-which r _ _ a.answered) a;
+        lists = subst (λ (x : Result ℕ Refusal). ManyAnswered m was is counts₀ counts x) (which ℕ r _ _ a.answered) a;
       }
 
 -- ---- one mobility peak
@@ -60,16 +62,16 @@ one-small run e peak ws first was = number_small (alone run e peak ws first) was
 pub one_told : OneWordTold
 one_told run e peak ws first was = word-told itself (one_number run e peak ws first was) (one_count run e peak ws first) (one-small run e peak ws first was)
 
-module _ {run : Run} {e : RtExpandParams} {peak : List ℕ} {ws : List Float} {first : ℕ} {was is : Lent} {r : ExpandAnswer} (a : OneAnswered run e peak ws first was is r) where
-  pub one-fits : length is.out ≡ length was.out → length was.out < 2 ^ 61 → word_of itself (expand_says r) < 2 ^ 64
+module _ {run : Run} {e : RtExpandParams} {peak : List ℕ} {ws : List Float} {first : ℕ} {was is : Lent} {r : Result ℕ Refusal} (a : OneAnswered run e peak ws first was is r) where
+  pub one-fits : length is.out ≡ length was.out → length was.out < 2 ^ 61 → word_of itself (says r) < 2 ^ 64
   one-fits kept short =
       rw a.answered
       (word_fits itself (one_number run e peak ws first was) (one_count run e peak ws first) (one-small run e peak ws first was)
       (λ z. omega (arith, few (peaks_of run e peak ws first) was.out is.out (a.accepted z).words kept, short)))
 
-  pub one_word : (w : ℕ) → w ≡ word_of itself (expand_says r) → OneTold run e peak ws first was is w
+  pub one_word : (w : ℕ) → w ≡ word_of itself (says r) → OneTold run e peak ws first was is w
   one_word w q =
       record {
         word = q ∙ ap (word_of itself) a.answered;
-        lists = subst (λ (x : ExpandAnswer). OneAnswered run e peak ws first was is x) (expand-which r _ _ a.answered) a;
+        lists = subst (λ (x : Result ℕ Refusal). OneAnswered run e peak ws first was is x) (which ℕ r _ _ a.answered) a;
       }

@@ -1,12 +1,12 @@
 -- What the C entries of expansion answer: 64 times the count of retention peaks, or the number.
-use Rattle.std.specs.Prelude.{◌≡◌, cond, List, ℕ, eqb, length, Float}
+use Rattle.std.specs.Prelude.{◌≡◌, cond, List, ℕ, eqb, length, Float, Result, Ok, Err}
+use Rattle.refusal.specs.declared.Refusal.{Refusal}
 use Rattle.refusal.specs.Answers.{answer_by}
+use Rattle.refusal.specs.NumberedLaws.{refusal_of}
 use Rattle.tof.specs.declared.TofScale.{TofScale}
 use Rattle.rtparams.specs.declared.RtExpandParams.{RtExpandParams}
 use Rattle.expandpeak.specs.Expanded.{Run}
 use Rattle.expandmany.specs.Many.{Many, joined_to}
-use Rattle.expand.specs.declared.ExpandAnswer.{ExpandAnswer}
-use Rattle.expand.specs.declared.ExpandAnswer.TheVariants.{RtPeaks, Refused}
 use Rattle.expand.specs.ExpandCall.{Lent, peaks_in, many_number, ManyAnswered, one_number, peaks_of, OneAnswered}
 use Rattle.entryword.specs.Word.{word_of, itself, Told}
 
@@ -15,8 +15,8 @@ abbrev pub scale_of : ℕ → ℕ → ℕ → ℕ → TofScale
 scale_of least most step bins = record { tof_min = least; tof_max = most; tof_step = step; num_bins = bins }
 
 -- the answer with a number, or with the count of retention peaks where that is 0, and its word
-abbrev pub answer_to : ℕ → ℕ → ExpandAnswer
-answer_to number count = cond (eqb number 0) (RtPeaks count) (Refused number)
+abbrev pub answer_to : ℕ → ℕ → Result ℕ Refusal
+answer_to number count = cond (eqb number 0) (Ok count) (Err (refusal_of number))
 
 abbrev pub expand_word : ℕ → ℕ → ℕ
 expand_word number count = word_of itself (answer_by number count)

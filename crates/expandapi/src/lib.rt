@@ -3,4 +3,3 @@
 
 pub mod many;
 pub mod one;
-pub mod word;

@@ -1,12 +1,17 @@
 // The retention peaks of many mobility peaks as a C function on numbers and lists.
 ghost use Rattle.std.specs.Prelude.{◌≡◌};
-ghost use Rattle.framesums.specs.Steps.{index_of};
+ghost use Rattle.frameindex.specs.FrameIndex.{index_of};
 ghost use Rattle.expandpeak.specs.Expanded.{run_of};
 ghost use Rattle.expandmany.specs.Many.{many_of};
 ghost use Rattle.expand.specs.ExpandCall.{lent_of};
 ghost use Rattle.rtgiven.specs.Given.{params_of};
 ghost use Rattle.expandapi.specs.Expansion.{scale_of, ManyTold};
 
+use entryword::word_of;
+use expand::lent::Lent;
+use expandmany::peaks::PeakList;
+use expandone::run::Run;
+use frameindex::FrameIndex;
 use tof::TofScale;
 
 // Writes the records of all mobility peaks' retention peaks, one after another, to the front of `out` and the count of each mobility peak's to
@@ -67,9 +72,31 @@ pub extern "C" fn rubzolena_expand_many_im_peaks(
         fallback_frac_width,
         rt_pad_frames,
     );
-    let answer = expand::expand_many_im_peaks_along_rt(
-        list, starts, bins, offsets, scans, readings, ids, times, scale, params, weights, lengths,
-        first, out, counts, raw, smooth, order,
-    );
-    super::word::word_of(answer)
+    let index = FrameIndex {
+        starts,
+        bins,
+        offsets,
+        scans,
+        readings,
+    };
+    let run = Run {
+        index: &index,
+        ids,
+        times,
+        scale,
+    };
+    let peaks = PeakList {
+        list,
+        weights,
+        lengths,
+        first,
+    };
+    let mut lent = Lent {
+        out,
+        raw,
+        smooth,
+        order,
+    };
+    let answer = expand::expand_many_im_peaks_along_rt(&run, params, peaks, &mut lent, counts);
+    word_of(answer)
 }

@@ -1,11 +1,15 @@
 // The retention peaks of one mobility peak as a C function on numbers and lists.
 ghost use Rattle.std.specs.Prelude.{◌≡◌};
-ghost use Rattle.framesums.specs.Steps.{index_of};
+ghost use Rattle.frameindex.specs.FrameIndex.{index_of};
 ghost use Rattle.expandpeak.specs.Expanded.{run_of};
 ghost use Rattle.expand.specs.ExpandCall.{lent_of};
 ghost use Rattle.rtgiven.specs.Given.{params_of};
 ghost use Rattle.expandapi.specs.Expansion.{scale_of, OneTold};
 
+use entryword::word_of;
+use expand::lent::Lent;
+use expandone::run::Run;
+use frameindex::FrameIndex;
 use tof::TofScale;
 
 // Writes the records of a mobility peak's retention peaks to the front of `out` and answers 64 times their count, or answers with a number
@@ -63,9 +67,25 @@ pub extern "C" fn rubzolena_expand_im_peak(
         fallback_frac_width,
         rt_pad_frames,
     );
-    let answer = expand::expand_im_peak_along_rt(
-        peak, starts, bins, offsets, scans, readings, ids, times, scale, params, weights, first,
-        out, raw, smooth, order,
-    );
-    super::word::word_of(answer)
+    let index = FrameIndex {
+        starts,
+        bins,
+        offsets,
+        scans,
+        readings,
+    };
+    let run = Run {
+        index: &index,
+        ids,
+        times,
+        scale,
+    };
+    let mut lent = Lent {
+        out,
+        raw,
+        smooth,
+        order,
+    };
+    let answer = expand::expand_im_peak_along_rt(&run, params, peak, weights, first, &mut lent);
+    word_of(answer)
 }

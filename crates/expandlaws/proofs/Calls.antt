@@ -22,31 +22,32 @@ use Rattle.expandtrace.specs.FallbackPeaks.{peak_words}
 use Rattle.expandtrace.proofs.Peaks.{words-join, words-length}
 use Rattle.expandpeak.specs.Expanded.{Run}
 use Rattle.expandmany.specs.Many.{Many, sum_to, weights_at, expanded_at, joined_to, count_of, counts_to}
-use Rattle.expand.specs.declared.ExpandAnswer.{ExpandAnswer}
-use Rattle.expand.specs.declared.ExpandAnswer.TheVariants.{RtPeaks, Refused}
+use Rattle.std.specs.Prelude.{Result, Ok, Err}
+use Rattle.refusal.specs.declared.Refusal.{Refusal}
+use Rattle.refusal.specs.NumberedLaws.{refusal_of}
+use Rattle.refusal.proofs.NumberedLaws.{which}
 use Rattle.expand.specs.ExpandCall.{peaks_in, many_number, alone, one_number, peaks_of}
 use Rattle.expand.proofs.CallLaws.{records-sound, weights-sound, followed, short}
 use Rattle.expand.proofs.AloneLaws.{one-peak}
-use Rattle.expand.proofs.ExpandLaws.{expand-which}
 use Rattle.expandlaws.specs.ExpandAccount.{OneAccounted, ManyAccounted}
 use Rattle.expandlaws.proofs.Words.{map_get}
 use Rattle.expandlaws.proofs.ExpandAccount.{peak-accounted}
 
 -- ---- the answer
 
-abbrev counts : ExpandAnswer → Bool
-counts (RtPeaks n) = true
-counts (Refused n) = false
+abbrev counts : Result ℕ Refusal → Bool
+counts (Ok n) = true
+counts (Err r) = false
 
-abbrev counted : ExpandAnswer → ℕ
-counted (RtPeaks n) = n
-counted (Refused n) = 0
+abbrev counted : Result ℕ Refusal → ℕ
+counted (Ok n) = n
+counted (Err r) = 0
 
 -- a count is answered where no number applies, and it is that of the peaks
-pub counted-by : (number count n : ℕ) → RtPeaks count ≡ cond (eqb number 0) (RtPeaks n) (Refused number) → (number ≡ 0) × (count ≡ n)
+pub counted-by : (number count n : ℕ) → Ok count ≡ cond (eqb number 0) (Ok n) (Err (refusal_of number)) → (number ≡ 0) × (count ≡ n)
 counted-by number count n h = go (eqb number 0) refl h
   where
-    go : (b : Bool) → eqb number 0 ≡ b → RtPeaks count ≡ cond b (RtPeaks n) (Refused number) → (number ≡ 0) × (count ≡ n)
+    go : (b : Bool) → eqb number 0 ≡ b → Ok count ≡ cond b (Ok n) (Err (refusal_of number)) → (number ≡ 0) × (count ≡ n)
     go true t e = (eqb-true number 0 t, ap counted e)
     go false t e = clash true refl (ap counts e)
 
@@ -60,7 +61,7 @@ one-accounted run e peak ws first was is count a =
     let p = peak_at peak 0 in
     let peaks = peaks_of run e peak ws first in
     let number = one_number run e peak ws first was in
-    let told = counted-by number count (length peaks) (expand-which (RtPeaks count) number (length peaks) a.answered) in
+    let told = counted-by number count (length peaks) (which ℕ (Ok count) number (length peaks) a.answered) in
     let m = alone run e peak ws first in
     let one : length peak / size ≡ 1 = one-peak run e peak first was ws told.0 in
     peak-accounted run e ws p first (followed m was 1 told.0) (subst (λ (l : List Float). sound_weights l ≡ true) (own-weights run e peak ws first) (weights-sound m was 1 told.0 0 (omega (arith, one))))
@@ -120,7 +121,7 @@ many-accounted m was is counts₀ counts total a =
     let n = peaks_in m in
     let number = many_number m was (length counts₀) in
     let joined = joined_to m n in
-    let told = counted-by number total (length joined) (expand-which (RtPeaks total) number (length joined) a.answered) in
+    let told = counted-by number total (length joined) (which ℕ (Ok total) number (length joined) a.answered) in
     let z = told.0 in
     let w = a.accepted z in
     let rest = drop n counts₀ in

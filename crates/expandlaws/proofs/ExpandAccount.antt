@@ -25,15 +25,13 @@ use Rattle.rtrecord.specs.RtRecord.{rt_peak_at, rt_peak_of}
 use Rattle.rtrecord.specs.declared.RtApex.{RtApex}
 use Rattle.rtrecord.specs.declared.RtPeak1D.{RtPeak1D}
 use Rattle.rtplace.specs.Placed.{bounds_in, placed}
-use Rattle.rtwindow.specs.declared.FrameWindow.TheVariants.{Frames, NoFrames}
+use Rattle.std.specs.Prelude.{Option, Some, None}
 use Rattle.rtwindow.proofs.Laws.{window-in}
 use Rattle.rtlaws.specs.RtAccount.{RtAccounted}
 use Rattle.rtlaws.proofs.RtAccount.{rt-account}
 use Rattle.digits.proofs.SortedLaws.{at-index}
 use Rattle.rtparams.specs.declared.RtExpandParams.{RtExpandParams}
 use Rattle.rtapex.specs.InTime.{local_peak_of}
-use Rattle.fallback.specs.declared.inner.Fallback.{Fallback}
-use Rattle.fallback.specs.declared.inner.Fallback.TheVariants.{Peak, NoPeak}
 use Rattle.fallback.specs.Fallback.{fallback_of}
 use Rattle.expandtrace.specs.declared.inner.Way.{Way}
 use Rattle.expandtrace.specs.declared.inner.Way.TheVariants.{AllZero, TooShort, Smoothed}
@@ -187,11 +185,11 @@ module _ (run : Run) (e : RtExpandParams) (ws : List Float) (p : ImPeak1D) (firs
       let l = go f in
       omega (arith, placed-length lo (length x) run.ids p (apexes_in f) first, l)
     where
-      go : (f : Fallback) → length (apexes_in f) ≤ 1
-      go NoPeak = omega arith
-      go (Peak q) = omega arith
+      go : (f : Option RtPeak1D) → length (apexes_in f) ≤ 1
+      go None = omega arith
+      go (Some q) = omega arith
 
-  not-ordinary : Frames lo hi ≡ window_in run e p → (Ordinary run e ws p lo hi → ⊥) → length (peaks_over run e ws p lo hi first) ≤ 1
+  not-ordinary : Some (record { lo = lo; hi = hi }) ≡ window_in run e p → (Ordinary run e ws p lo hi → ⊥) → length (peaks_over run e ws p lo hi first) ≤ 1
   unfolding peaks_over by_way or_else
   not-ordinary w other = go (way_of x e.fallback_if_frames_lt) refl found refl
     where
@@ -207,11 +205,11 @@ module _ (run : Run) (e : RtExpandParams) (ws : List Float) (p : ImPeak1D) (firs
     (f : Followed run e) (sound : sound_weights ws ≡ true) (numbers : p.frame_id_lo ≤ p.frame_id_hi) (short : length run.ids ≤ max_frames)
     (front rest out : List ℕ) (from count : ℕ) (long : length front ≡ from * 22)
     (counted : count ≡ length (expanded run e ws p first)) (words : out ≡ front ++ (peak_words (expanded run e ws p first) ++ rest)) where
-  no-window : NoFrames ≡ window_in run e p → count ≡ 0
+  no-window : None ≡ window_in run e p → count ≡ 0
   unfolding expanded peaks_in
   no-window w = counted ∙ rw (← w) refl
 
-  over-is : (lo hi : ℕ) → Frames lo hi ≡ window_in run e p → expanded run e ws p first ≡ peaks_over run e ws p lo hi first
+  over-is : (lo hi : ℕ) → Some (record { lo = lo; hi = hi }) ≡ window_in run e p → expanded run e ws p first ≡ peaks_over run e ws p lo hi first
   unfolding expanded peaks_in
   over-is lo hi w = rw (← w) refl
 

@@ -23,7 +23,7 @@ use Rattle.rtlaws.proofs.RtAccount.{rt-account, qualifying-are}
 use Rattle.digits.proofs.SortedLaws.{at-index}
 use Rattle.rtparams.specs.declared.RtExpandParams.{RtExpandParams}
 use Rattle.rtapex.specs.InTime.{local_peak_of}
-use Rattle.fallback.specs.declared.inner.Fallback.TheVariants.{Peak, NoPeak}
+use Rattle.std.specs.Prelude.{Some, None}
 use Rattle.fallback.specs.Fallback.{top_of, centroid, apex_of, bounds_of, fallback_of}
 use Rattle.expandtrace.specs.declared.inner.Way.{Way}
 use Rattle.expandtrace.specs.declared.inner.Way.TheVariants.{AllZero, TooShort, Smoothed}
@@ -103,7 +103,7 @@ module _ (run : Run) (e : RtExpandParams) (ws : List Float) (p : ImPeak1D) (lo h
         only zero h = sample-most (length x) (floor_f (centroid x (top_of x).place)) some few
         only (suc k) h = absurd (omega arith)
 
-        go : (b : Bool) → Placed (placed_all lo (length x) run.ids p (apexes_in (cond b NoPeak (Peak q))) first)
+        go : (b : Bool) → Placed (placed_all lo (length x) run.ids p (apexes_in (cond b None (Some q))) first)
         go true = record { apexes = []; placing = record { are = refl; low = λ k h. absurd (omega arith) } }
         go false = record { apexes = q.apex ∷ []; placing = record { are = refl; low = only } }
 

@@ -1,11 +1,10 @@
 -- What may be relied on in the retention peaks of a mobility peak, said of the words handed back.
-use Rattle.std.specs.Prelude.{◌≡◌, false, List, ◌⊎◌, ◌↔◌, ℕ, ◌+◌, ◌-◌, ◌*◌, ◌≤◌, ◌<◌, min, max, length, get_or, Float}
+use Rattle.std.specs.Prelude.{Some, None, Ok, ◌≡◌, false, List, ◌⊎◌, ◌↔◌, ℕ, ◌+◌, ◌-◌, ◌*◌, ◌≤◌, ◌<◌, min, max, length, get_or, Float}
 use Rattle.numeric.specs.Plain.{AllFit}
 use Rattle.smoothing.specs.Smoothing.{smoothed}
 use Rattle.record.specs.Record.{peak_at}
 use Rattle.record.specs.declared.ImPeak1D.{ImPeak1D}
 use Rattle.rtparams.specs.declared.RtExpandParams.{RtExpandParams}
-use Rattle.rtwindow.specs.declared.FrameWindow.TheVariants.{Frames, NoFrames}
 use Rattle.rtrecord.specs.RtRecord.{rt_size, rt_peak_at}
 use Rattle.rtrecord.specs.declared.RtPeak1D.{RtPeak1D}
 use Rattle.rtplace.specs.PlacedLaws.{PeakInFrames}
@@ -17,7 +16,6 @@ use Rattle.expandtrace.specs.declared.inner.Way.TheVariants.{Smoothed}
 use Rattle.expandtrace.specs.Trace.{trace_over, way_of}
 use Rattle.expandpeak.specs.Expanded.{Run, window_in, floor_of, searched}
 use Rattle.expandmany.specs.Many.{Many, sum_to, weights_at}
-use Rattle.expand.specs.declared.ExpandAnswer.TheVariants.{RtPeaks}
 use Rattle.expand.specs.ExpandCall.{Lent, OneAnswered, peaks_in, ManyAnswered}
 
 -- ---- the trace of a mobility peak over the frames lo to hi: raw, smoothed, and its times
@@ -37,7 +35,7 @@ listed_over run e ws p lo hi = searched e (smooth_over run e ws p lo hi) (raw_ov
 
 -- The path is ordinary (document 01): the peak has the padded frame window lo to hi, its trace is not too short, and an apex is listed.
 pub record Ordinary (run : Run) (e : RtExpandParams) (ws : List Float) (p : ImPeak1D) (lo hi : ℕ) : Type 0 where
-  pub window : Frames lo hi ≡ window_in run e p
+  pub window : Some (record { lo = lo; hi = hi }) ≡ window_in run e p
   pub long : Smoothed ≡ way_of (raw_over run e p lo hi) e.fallback_if_frames_lt
   pub some : 0 < length (listed_over run e ws p lo hi)
 
@@ -88,12 +86,12 @@ pub record PeakAccounted (run : Run) (e : RtExpandParams) (ws : List Float) (p :
   -- all of them are there, so that nothing is read past an end
   pub records : (from + count) * rt_size ≤ length out
   -- where there is no window there is no record
-  pub none : NoFrames ≡ window_in run e p → count ≡ 0
+  pub none : None ≡ window_in run e p → count ≡ 0
   -- where there is one, all records lie in it; the bounds of the fallback's may stand reversed
-  pub window : (lo hi : ℕ) → Frames lo hi ≡ window_in run e p → (k : ℕ) → k < count → InWindow run lo hi (rt_peak_at out (from + k))
+  pub window : (lo hi : ℕ) → Some (record { lo = lo; hi = hi }) ≡ window_in run e p → (k : ℕ) → k < count → InWindow run lo hi (rt_peak_at out (from + k))
   pub ordinary : (lo hi : ℕ) → Ordinary run e ws p lo hi → ExpandAccounted run e ws p lo hi from count out
   -- where the path is not the ordinary one, the fallback has one record at most
-  pub fallback : (lo hi : ℕ) → Frames lo hi ≡ window_in run e p → (Ordinary run e ws p lo hi → ⊥) → count ≤ 1
+  pub fallback : (lo hi : ℕ) → Some (record { lo = lo; hi = hi }) ≡ window_in run e p → (Ordinary run e ws p lo hi → ⊥) → count ≤ 1
 
 -- ---- what expansion's second call hands back, where it answers a count
 
@@ -101,7 +99,7 @@ pub record PeakAccounted (run : Run) (e : RtExpandParams) (ws : List Float) (p :
 abbrev pub OneAccounted : Type 0
 OneAccounted =
     (run : Run) (e : RtExpandParams) (peak : List ℕ) (ws : List Float) (first : ℕ) (was is : Lent) (count : ℕ)
-    → OneAnswered run e peak ws first was is (RtPeaks count) → PeakAccounted run e ws (peak_at peak 0) 0 count is.out
+    → OneAnswered run e peak ws first was is (Ok count) → PeakAccounted run e ws (peak_at peak 0) 0 count is.out
 
 -- For many: the column has a count for each mobility peak; the records of the q-th begin behind those of the ones before it, and
 -- there are no others: `many-accounted`
@@ -112,5 +110,5 @@ pub record AllAccounted (m : Many) (total : ℕ) (counts out : List ℕ) : Type 
 
 abbrev pub ManyAccounted : Type 0
 ManyAccounted =
-    (m : Many) (was is : Lent) (counts₀ counts : List ℕ) (total : ℕ) → ManyAnswered m was is counts₀ counts (RtPeaks total)
+    (m : Many) (was is : Lent) (counts₀ counts : List ℕ) (total : ℕ) → ManyAnswered m was is counts₀ counts (Ok total)
     → AllAccounted m total counts is.out

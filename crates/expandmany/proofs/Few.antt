@@ -13,8 +13,8 @@ use Rattle.record.specs.declared.ImPeak1D.{ImPeak1D}
 use Rattle.rowsearch.specs.Qualifying.{qualifying, kept}
 use Rattle.rowsearch.proofs.Account.{all-kept}
 use Rattle.rowsearch.proofs.QualifyingLaws.{qualifying-ascend, kept-count}
-use Rattle.rtwindow.specs.declared.FrameWindow.{FrameWindow}
-use Rattle.rtwindow.specs.declared.FrameWindow.TheVariants.{Frames, NoFrames}
+use Rattle.rtwindow.specs.declared.Frames.{Frames}
+use Rattle.std.specs.Prelude.{Option, Some, None}
 use Rattle.rtwindow.proofs.Laws.{window-in}
 use Rattle.chosen.specs.Chosen.{passing}
 use Rattle.chosen.specs.Ranking.{inserted_by, ordered_by}
@@ -24,8 +24,6 @@ use Rattle.rtapex.specs.InTime.{apex_time, local_peak_of}
 use Rattle.rtsearch.specs.Retention.{asks, is_wide, rt_qualifying, higher_first, earlier_first, chosen_apexes, has_shares, listed_apexes}
 use Rattle.rtparams.specs.declared.RtExpandParams.{RtExpandParams}
 use Rattle.rtrecord.specs.declared.RtPeak1D.{RtPeak1D}
-use Rattle.fallback.specs.declared.inner.Fallback.{Fallback}
-use Rattle.fallback.specs.declared.inner.Fallback.TheVariants.{Peak, NoPeak}
 use Rattle.fallback.specs.Fallback.{fallback_of}
 use Rattle.expandwindow.specs.Window.{cut}
 use Rattle.expandtrace.specs.declared.inner.Way.{Way}
@@ -85,9 +83,9 @@ fallback-few x lo ids times p frac id =
     let l = go f in
     omega arith
   where
-    go : (f : Fallback) → length (apexes_in f) ≤ 1
-    go NoPeak = omega arith
-    go (Peak q) = omega arith
+    go : (f : Option RtPeak1D) → length (apexes_in f) ≤ 1
+    go None = omega arith
+    go (Some q) = omega arith
 
 searched-few : (run : Run) (e : RtExpandParams) (ws : List Float) (p : ImPeak1D) (lo hi : ℕ) (x : List Float) (first : ℕ) → length (searched_peaks run e ws p lo hi x first) ≤ most_peaks (length x)
 unfolding searched_peaks searched
@@ -123,8 +121,8 @@ pub expanded-few : (run : Run) (e : RtExpandParams) (ws : List Float) (p : ImPea
 unfolding expanded peaks_in
 expanded-few run e ws p first h = go (window_in run e p) refl
   where
-    go : (w : FrameWindow) → w ≡ window_in run e p → length (peaks_in run e ws p first w) ≤ most (length run.ids)
-    go NoFrames s = omega arith
-    go (Frames lo hi) s =
-        let i = window-in run.ids p.frame_id_lo p.frame_id_hi e.rt_pad_frames lo hi h s in
-        over-few run e ws p lo hi first i.0 i.1
+    go : (w : Option Frames) → w ≡ window_in run e p → length (peaks_in run e ws p first w) ≤ most (length run.ids)
+    go None s = omega arith
+    go (Some w) s =
+        let i = window-in run.ids p.frame_id_lo p.frame_id_hi e.rt_pad_frames w.lo w.hi h s in
+        over-few run e ws p w.lo w.hi first i.0 i.1

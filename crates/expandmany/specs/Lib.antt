@@ -1,3 +1,4 @@
 -- The definitions that the contracts of `expandmany` cite.
 pub mod Many
+pub mod Calls
 pub mod Steps

@@ -1,130 +1,77 @@
 // Mobility peaks expanded one after another over a run that the caller has checked.
-ghost use Rattle.std.specs.Prelude.{◌≡◌, ◌<◌, length, get_or, take, drop};
+ghost use Rattle.std.specs.Prelude.{◌≡◌, ◌≤◌, length, take, drop};
 ghost use Rattle.record.specs.Record.{peak_at};
-ghost use Rattle.framesums.specs.Steps.{index_of};
-ghost use Rattle.expandpeak.specs.Expanded.{run_of, expanded};
-ghost use Rattle.expandone.specs.Steps.{Followed, Scratch};
-ghost use Rattle.expandmany.specs.Many.{many_of};
+ghost use Rattle.expandpeak.specs.Expanded.{expanded};
+ghost use Rattle.expandone.specs.Runs.{run_in};
+ghost use Rattle.expandmany.specs.Calls.{many_in};
 ghost use Rattle.expandmany.specs.Steps.{Ready, Done, Reachable, PutBehind};
 
+use super::peaks::PeakList;
+use expandone::run::FollowedRun;
+use expandone::scratch::RunScratch;
 use record::PeakId;
-use rtparams::RtExpandParams;
 use rtrecord::RtPeak1D;
-use tof::TofScale;
 
-fn length_at(lengths: &[u32], i: usize) -> usize
-    requires { i < length lengths.now }
-    ensures { result ≡ get_or lengths.now i 0 }
-{
-    lengths[i] as usize
+// The turn of the mobility peak at a place: its weights are the `len` ones from `at` on, its first identity, and how many retention peaks
+// come before its own.
+#[derive(Clone, Copy)]
+pub struct Turn {
+    pub place: usize,
+    pub at: usize,
+    pub len: usize,
+    pub first: PeakId,
+    pub total: usize,
 }
 
-// Writes the retention peaks of the mobility peak at place i behind the first `total` of `out` and answers how many there are. Its
-// weights are the `len` ones from `at` on.
+// Writes the retention peaks of the mobility peak whose turn it is behind those before them and answers how many there are.
 fn expand_at(
-    list: &[u32],
-    i: usize,
-    starts: &[u32],
-    bins: &[u32],
-    offsets: &[u32],
-    scans: &[u32],
-    readings: &[f32],
-    ids: &[u32],
-    times: &[f32],
-    scale: TofScale,
-    e: RtExpandParams,
-    weights: &[f32],
-    at: usize,
-    len: usize,
-    first: PeakId,
-    total: usize,
+    run: &FollowedRun<'_>,
+    peaks: &PeakList<'_>,
+    turn: Turn,
+    scratch: &mut RunScratch<'_, '_, '_>,
     out: &mut [u32],
-    raw: &mut [f32],
-    smooth: &mut [f32],
-    turns: &mut [u32],
-    bases: &mut [u32],
-    found: &mut [u32],
-    order: &mut [u32],
-    near: &mut [u32],
 ) -> usize
-    requires { Followed (run_of (index_of starts.now bins.now offsets.now scans.now readings.now) ids.now times.now scale) e
-        × Reachable (run_of (index_of starts.now bins.now offsets.now scans.now readings.now) ids.now times.now scale) list.now i weights.now at len first total (length out.old)
-        × Scratch (length ids.now) (length raw.old) (length smooth.old) (length turns.old) (length bases.old) (length found.old) (length order.old) (length near.old) }
-    ensures { PutBehind (expanded (run_of (index_of starts.now bins.now offsets.now scans.now readings.now) ids.now times.now scale) e (take len (drop at weights.now)) (peak_at list.now i) first) out.old total result out.new }
+    requires { Reachable (run_in run.now) peaks.now.list.now turn.place peaks.now.weights.now turn.at turn.len turn.first turn.total (length out.old)
+        × (length run.now.ids.now ≤ scratch.old.trace.search.samples) }
+    ensures put { PutBehind (expanded (run_in run.now) run.now.params (take turn.len (drop turn.at peaks.now.weights.now)) (peak_at peaks.now.list.now turn.place) turn.first) out.old turn.total result out.new }
+    ensures samples { scratch.new.trace.search.samples ≡ scratch.old.trace.search.samples }
 {
-    let p = record::inner::peak_at(list, i);
-    let end = at + len;
-    let from = total * RtPeak1D::WORDS;
-    expandone::inner::expand_peak(
-        starts,
-        bins,
-        offsets,
-        scans,
-        readings,
-        ids,
-        times,
-        scale,
-        e,
-        &weights[at..end],
-        p,
-        first,
-        &mut out[from..],
-        raw,
-        smooth,
-        turns,
-        bases,
-        found,
-        order,
-        near,
-    )
+    let p = record::inner::peak_at(peaks.list, turn.place);
+    let end = turn.at + turn.len;
+    let from = turn.total * RtPeak1D::WORDS;
+    let weights = &peaks.weights[turn.at..end];
+    expandone::inner::expand_peak(run, weights, p, turn.first, scratch, &mut out[from..])
 }
 
 // Writes the retention peaks of the first n mobility peaks of a list to the front of `out`, one peak's after another's, with
-// identities that run on from `first`, and how many each has to the front of `counts`. Answers how many there are in all. The last
-// seven lists are scratch.
+// identities that run on, and how many each has to the front of `counts`. Answers how many there are in all.
 pub fn expand_peaks(
-    list: &[u32],
+    run: &FollowedRun<'_>,
+    peaks: &PeakList<'_>,
     n: usize,
-    starts: &[u32],
-    bins: &[u32],
-    offsets: &[u32],
-    scans: &[u32],
-    readings: &[f32],
-    ids: &[u32],
-    times: &[f32],
-    scale: TofScale,
-    e: RtExpandParams,
-    weights: &[f32],
-    lengths: &[u32],
-    first: PeakId,
+    scratch: &mut RunScratch<'_, '_, '_>,
     out: &mut [u32],
     counts: &mut [u32],
-    raw: &mut [f32],
-    smooth: &mut [f32],
-    turns: &mut [u32],
-    bases: &mut [u32],
-    found: &mut [u32],
-    order: &mut [u32],
-    near: &mut [u32],
 ) -> usize
-    requires { Ready (many_of (run_of (index_of starts.now bins.now offsets.now scans.now readings.now) ids.now times.now scale) e list.now weights.now lengths.now first) n (length out.old) (length counts.old)
-        × Scratch (length ids.now) (length raw.old) (length smooth.old) (length turns.old) (length bases.old) (length found.old) (length order.old) (length near.old) }
-    ensures { Done (many_of (run_of (index_of starts.now bins.now offsets.now scans.now readings.now) ids.now times.now scale) e list.now weights.now lengths.now first) n out.old counts.old result out.new counts.new }
+    requires { Ready (many_in run.now peaks.now) n (length out.old) (length counts.old)
+        × (length run.now.ids.now ≤ scratch.old.trace.search.samples) }
+    ensures { Done (many_in run.now peaks.now) n out.old counts.old result out.new counts.new }
 {
     let mut total = 0usize;
     let mut at = 0usize;
-    let mut i = 0usize;
-    while i < n {
-        let len = length_at(lengths, i);
-        let id = first + total as PeakId;
-        let r = expand_at(
-            list, i, starts, bins, offsets, scans, readings, ids, times, scale, e, weights, at,
-            len, id, total, out, raw, smooth, turns, bases, found, order, near,
-        );
+    for i in 0..n {
+        let len = peaks.lengths[i] as usize;
+        let turn = Turn {
+            place: i,
+            at,
+            len,
+            first: peaks.first + total as PeakId,
+            total,
+        };
+        let r = expand_at(run, peaks, turn, scratch, out);
         counts[i] = r as u32;
         total += r;
         at += len;
-        i += 1;
     }
     total
 }

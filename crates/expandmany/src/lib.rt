@@ -3,3 +3,4 @@
 #![tactic(auto)]
 
 pub mod inner;
+pub mod peaks;

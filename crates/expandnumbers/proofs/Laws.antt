@@ -1,8 +1,8 @@
 -- Sums of lengths, weights list by list, and products that are not worked out.
 use mathlib.Core.Path.{◌≡◌, refl, sym, ap, ◌∙◌}
 use mathlib.Core.Bool.{Bool, true, false, ◌&&◌}
-use mathlib.Core.List.{List, [], ◌∷◌}
-use Prim.Native.Nat.{ℕ, zero, suc, ◌≤◌, ◌<◌, ◌+◌, ◌-◌, ◌*◌, ◌/◌, min}
+use mathlib.Core.List.{List}
+use Prim.Native.Nat.{ℕ, suc, ◌≤◌, ◌<◌, ◌+◌, ◌-◌, ◌*◌, ◌/◌, min}
 use native.Mathlib.Nat.{le-div_iff_mul-le, div-lt_iff_lt-mul, mul_comm, zero-mul}
 use native.Mathlib.Numerals.{add-one}
 use native.Mathlib.Omega.{arith}
@@ -13,7 +13,7 @@ use lib.Seq.{drop-cons, drop-drop, take_all}
 use lib.Ieee.{Float}
 use Rattle.numeric.proofs.Laws.{and_assoc, and-true}
 use Rattle.smoothing.specs.Smoothing.{sound_weights}
-use Rattle.expandnumbers.specs.ExpandNumber.{sum_of, sums_to, all_weights}
+use Rattle.expandnumbers.specs.ExpandNumber.{sum_of, all_weights}
 
 -- ---- sums
 pub sum_step : (l : List ℕ) (i : ℕ) → i < length l → sum_of (drop i l) ≡ get_or l i 0 + sum_of (drop (i + 1) l)

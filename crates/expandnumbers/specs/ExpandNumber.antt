@@ -1,5 +1,5 @@
 -- Which number of document 01 a call of expansion is answered with, 0 for none.
-use Rattle.std.specs.Prelude.{Bool, true, not, ◌&&◌, List, [], ◌∷◌, ℕ, ◌+◌, ◌-◌, ◌*◌, ◌/◌, leb, eqb, length, take, drop, Float}
+use Rattle.std.specs.Prelude.{Bool, true, not, ◌&&◌, List, [], ◌∷◌, ℕ, ◌+◌, ◌-◌, ◌*◌, ◌/◌, leb, eqb, take, drop, Float}
 use Rattle.refusal.specs.Refusal.{Check}
 use Rattle.limits.specs.Limits.{max_seconds, identities}
 use Rattle.numeric.specs.Numeric.{all_in_range}

@@ -1,11 +1,13 @@
 // What a call of expansion is asked. Each function takes any lists and numbers.
 ghost use Rattle.std.specs.Prelude.{◌≡◌, ◌≤◌, ◌+◌, ◌*◌, min, leb, length};
 ghost use Rattle.refusal.specs.Refusal.{first_of};
+ghost use Rattle.refusal.specs.Numbered.{number_in};
 ghost use Rattle.expandone.specs.Steps.{most};
 ghost use Rattle.expandnumbers.specs.ExpandNumber.{sums_to, all_weights, paired_axes, sound_values, rising_axes, enough_room, enough_scratch, expand_checks};
 
 use frameindex::inner::Seen;
 use record::PeakId;
+use refusal::Refusal;
 use rtparams::RtExpandParams;
 use rtrecord::RtPeak1D;
 
@@ -26,47 +28,48 @@ pub struct Asked {
     pub scale: bool,
 }
 
-// The lowest number that applies, or 0.
-pub fn number(s: Seen, a: Asked) -> u32
-    ensures { result ≡ first_of (expand_checks s a) }
+// Refuses with the lowest number that applies.
+#[tactic(auto, unfolding(refusal::specs::Refusal::first_of))]
+pub fn check(s: Seen, a: Asked) -> Result<(), Refusal>
+    ensures { number_in result ≡ first_of (expand_checks s a) }
 {
     if !(s.agreeing & a.lengths) {
-        return 1;
+        return Err(Refusal::Lengths);
     }
     if !(!s.too_large & a.sizes) {
-        return 2;
+        return Err(Refusal::Size);
     }
     if !s.readings {
-        return 3;
+        return Err(Refusal::Reading);
     }
     if !a.values {
-        return 4;
+        return Err(Refusal::Value);
     }
     if !(s.scans & a.tofs) {
-        return 5;
+        return Err(Refusal::Axis);
     }
     if !a.weights {
-        return 6;
+        return Err(Refusal::Weights);
     }
     if !a.axes {
-        return 7;
+        return Err(Refusal::Order);
     }
     if !a.records {
-        return 9;
+        return Err(Refusal::Record);
     }
     if !a.room {
-        return 20;
+        return Err(Refusal::Room);
     }
     if !a.scratch {
-        return 21;
+        return Err(Refusal::Scratch);
     }
     if !a.scale {
-        return 22;
+        return Err(Refusal::Scale);
     }
     if !s.sound {
-        return 23;
+        return Err(Refusal::Index);
     }
-    0
+    Ok(())
 }
 
 // ---- its parts
@@ -75,8 +78,7 @@ pub fn number(s: Seen, a: Asked) -> u32
 pub fn most_of(n: usize) -> usize
     ensures { result ≡ most n }
 {
-    let k = params::inner::most_peaks(n);
-    if k < 1 { 1 } else { k }
+    params::inner::most_peaks(n).max(1)
 }
 
 // Whether there is one frame number and one time for each frame of an index with so many starts.
@@ -94,34 +96,20 @@ pub fn sums_to(lengths: &[u32], n: usize) -> bool
     ensures { result ≡ sums_to lengths.now n }
 {
     let mut left = n;
-    let mut i = 0usize;
-    while i < lengths.len() {
-        let k = lengths[i] as usize;
-        if left < k {
+    for &k in lengths {
+        if left < k as usize {
             return false;
         }
-        left -= k;
-        i += 1;
+        left -= k as usize;
     }
     left == 0
-}
-
-// k places behind `at`, or the end of n places.
-fn end_of(at: usize, k: usize, n: usize) -> usize
-    requires { at ≤ n }
-    ensures { result ≡ min (at + k) n }
-{
-    if k < n - at { at + k } else { n }
 }
 
 // Whether n times m is at most `most`.
 fn fits_times(n: usize, m: usize, most: usize) -> bool
     ensures { result ≡ leb (n * m) most }
 {
-    if n == 0 {
-        return true;
-    }
-    m <= most / n
+    n == 0 || m <= most / n
 }
 
 // Whether each of the lists of weights that are joined, with these lengths, is sound.
@@ -130,17 +118,16 @@ pub fn all_weights(lengths: &[u32], weights: &[f32]) -> bool
 {
     let mut all = true;
     let mut at = 0usize;
-    let mut i = 0usize;
-    while i < lengths.len() {
-        let end = end_of(at, lengths[i] as usize, weights.len());
-        all = all & smoothing::inner::sound_weights(&weights[at..end]);
+    for &k in lengths {
+        let end = at + (k as usize).min(weights.len() - at);
+        all &= smoothing::inner::sound_weights(&weights[at..end]);
         at = end;
-        i += 1;
     }
     all
 }
 
 // Whether parameters and times are in range and n times m identities can follow the first.
+#[tactic(auto, unfolding(crate::specs::ExpandNumber::sound_values))]
 pub fn sound_values(
     e: RtExpandParams,
     step: u32,
@@ -151,13 +138,14 @@ pub fn sound_values(
 ) -> bool
     ensures { result ≡ sound_values e step times.now first n m }
 {
-    rtparams::inner::sound_expand_params(e)
+    e.is_sound()
         & tof::inner::sound_step(step)
         & numeric::inner::all_in_range(times, limits::MAX_SECONDS)
         & fits_times(n, m, limits::IDENTITIES - first as usize)
 }
 
 // Whether frame numbers rise and times do not fall.
+#[tactic(auto, unfolding(crate::specs::ExpandNumber::rising_axes))]
 pub fn rising_axes(ids: &[u32], times: &[f32]) -> bool
     ensures { result ≡ rising_axes ids.now times.now }
 {
@@ -165,6 +153,7 @@ pub fn rising_axes(ids: &[u32], times: &[f32]) -> bool
 }
 
 // Whether `room` words hold n times m records.
+#[tactic(auto, unfolding(crate::specs::ExpandNumber::enough_room))]
 pub fn enough_room(n: usize, m: usize, room: usize) -> bool
     ensures { result ≡ enough_room n m room }
 {

@@ -2,7 +2,7 @@
 use mathlib.Core.Path.{◌≡◌, refl, sym, ap, ◌∙◌, subst}
 use mathlib.Core.Bool.{true}
 use mathlib.Core.List.{List, ◌++◌}
-use Prim.Native.Nat.{ℕ, ◌≤◌, ◌<◌, ◌+◌, ◌-◌, ◌*◌, ◌^◌, max}
+use Prim.Native.Nat.{ℕ, ◌≤◌, ◌<◌, ◌+◌, ◌-◌, ◌*◌, ◌^◌}
 use native.Mathlib.Omega.{arith}
 use lib.Dec.{lit<, lit≤}
 use lib.ListN.{length, take, drop, length-drop}
@@ -27,11 +27,11 @@ use Rattle.rtparams.specs.declared.RtExpandParams.{RtExpandParams}
 use Rattle.expandtrace.specs.Trace.{trace_over}
 use Rattle.expandtrace.specs.FallbackPeaks.{Put}
 use Rattle.expandtrace.proofs.Peaks.{put-start}
-use Rattle.rtwindow.specs.declared.FrameWindow.TheVariants.{Frames, NoFrames}
+use Rattle.std.specs.Prelude.{Some, None}
 use Rattle.expandwindow.specs.Window.{cut}
 use Rattle.expandpeak.specs.Expanded.{Run, searched_peaks, peaks_over, peaks_in, window_in, expanded}
 use Rattle.expandpeak.specs.Steps.{followed, Followable}
-use Rattle.expandone.specs.Steps.{max_summed, Followed, Scratch, Expandable}
+use Rattle.expandone.specs.Steps.{max_summed, Followed, Expandable}
 
 -- 2 ^ 58
 mag-summed : mag (limit_f max_summed) ≡ one * 2 ^ 58
@@ -71,10 +71,10 @@ trace-front run e p lo hi n was is k h =
     ap (take n) h ∙ take_at x (drop (hi + 1 - lo) was) n (trace-length run e p lo hi ∙ sym k)
 
 -- what following it asks
-pub followable : {first out raw smooth turns bases found order near : ℕ} (run : Run) (e : RtExpandParams) (ws : List Float) (p : ImPeak1D) (lo hi : ℕ) (x t : List Float)
-    → Followed run e → Expandable run ws p first out → Scratch (length run.ids) raw smooth turns bases found order near → AllFit run.index.readings → AllFit ws
+pub followable : {first out samples : ℕ} (run : Run) (e : RtExpandParams) (ws : List Float) (p : ImPeak1D) (lo hi : ℕ) (x t : List Float)
+    → Followed run e → Expandable run ws p first out → length run.ids ≤ samples → AllFit run.index.readings → AllFit ws
     → lo ≤ hi → hi < length run.ids → x ≡ trace_over run.index run.scale e.bin_pad p lo hi → t ≡ cut lo hi run.times
-    → Followable x t ws lo run.ids run.times first out smooth turns bases found order
+    → Followable x t ws lo run.ids run.times first out samples
 followable run e ws p lo hi x t f s room fit wfit h k is cuts =
     let n : length x ≡ hi + 1 - lo = ap length is ∙ trace-length run e p lo hi in
     let axis = f.axis in
@@ -82,11 +82,6 @@ followable run e ws p lo hi x t f s room fit wfit h k is cuts =
     let m : length t ≡ hi + 1 - lo = ap length cuts ∙ length-take-le (hi + 1 - lo) (drop lo run.times) (rw (length-drop lo run.times) (omega arith)) in
     let named = s.named in
     let wide = s.room in
-    let smooth = room.smooth-long in
-    let turns = room.search.turns-long in
-    let bases = room.search.bases-long in
-    let found = room.search.found-long in
-    let order = room.order-long in
     let few : most_peaks (length x) ≤ most_peaks (length run.ids) = omega arith in
     record {
       some = omega arith;
@@ -100,9 +95,7 @@ followable run e ws p lo hi x t f s room fit wfit h k is cuts =
         short = short;
         named = omega arith;
         room = omega arith;
-        smooth-long = omega arith;
-        search = record { turns-long = omega arith; bases-long = omega arith; found-long = omega arith };
-        order-long = omega arith;
+        search = omega arith;
       };
     }
 
@@ -116,11 +109,11 @@ put-over run e ws p lo hi first {was = was} {is = is} {n = n} x t h k put =
     (subst (λ (v : List Float). Put (followed e ws run.ids run.times p lo x v first) was n is) k put)
 
 -- the peaks in a window
-pub put-frames : (run : Run) (e : RtExpandParams) (ws : List Float) (p : ImPeak1D) (first lo hi : ℕ) {was is : List ℕ} {n : ℕ} → Frames lo hi ≡ window_in run e p
+pub put-frames : (run : Run) (e : RtExpandParams) (ws : List Float) (p : ImPeak1D) (first lo hi : ℕ) {was is : List ℕ} {n : ℕ} → Some (record { lo = lo; hi = hi }) ≡ window_in run e p
     → Put (peaks_over run e ws p lo hi first) was n is → Put (expanded run e ws p first) was n is
 unfolding expanded peaks_in
 put-frames run e ws p first lo hi h put = rw (← h) put
 
-pub put-no-frames : (run : Run) (e : RtExpandParams) (ws : List Float) (p : ImPeak1D) (first : ℕ) (was : List ℕ) → NoFrames ≡ window_in run e p → Put (expanded run e ws p first) was 0 was
+pub put-no-frames : (run : Run) (e : RtExpandParams) (ws : List Float) (p : ImPeak1D) (first : ℕ) (was : List ℕ) → None ≡ window_in run e p → Put (expanded run e ws p first) was 0 was
 unfolding expanded peaks_in
 put-no-frames run e ws p first was h = rw (← h) (put-start was)

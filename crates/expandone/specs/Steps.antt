@@ -6,9 +6,7 @@ use Rattle.smoothing.specs.Smoothing.{sound_weights}
 use Rattle.params.specs.Params.{most_peaks, rising}
 use Rattle.record.specs.declared.ImPeak1D.{ImPeak1D}
 use Rattle.tof.specs.Tof.{Sound}
-use Rattle.rowsearch.specs.Found.{Room}
-use Rattle.frameindex.specs.FrameIndex.{points}
-use Rattle.framesums.specs.Steps.{Checked}
+use Rattle.frameindex.specs.FrameIndex.{points, Checked}
 use Rattle.rtparams.specs.declared.RtExpandParams.{RtExpandParams}
 use Rattle.rtrecord.specs.RtRecord.{rt_size}
 use Rattle.expandpeak.specs.Expanded.{Run}
@@ -32,14 +30,6 @@ pub record Followed (run : Run) (e : RtExpandParams) : Type 0 where
   pub axis : length run.times ≡ length run.ids
   pub short : length run.ids ≤ exact_index
   pub rise : rising run.ids ≡ true
-
--- Scratch for a run of n frames: a float a frame in the first two lists, what the search of such a trace needs, and a place a frame.
-pub record Scratch (n raw smooth turns bases found order near : ℕ) : Type 0 where
-  pub raw-long : n ≤ raw
-  pub smooth-long : n ≤ smooth
-  pub search : Room n turns bases found
-  pub order-long : most_peaks n ≤ order
-  pub near-long : n ≤ near
 
 -- A mobility peak that can be expanded over such a run, with weights, a first identity, and `out` words for its retention peaks.
 pub record Expandable (run : Run) (ws : List Float) (p : ImPeak1D) (first out : ℕ) : Type 0 where

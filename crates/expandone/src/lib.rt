@@ -3,3 +3,5 @@
 #![tactic(auto)]
 
 pub mod inner;
+pub mod run;
+pub mod scratch;

@@ -1,17 +1,18 @@
 -- The apexes of an order one after another, and what the steps of expansion are asked.
 use mathlib.Core.Path.{◌≡◌, refl, sym, ap, ◌∙◌, subst}
-use mathlib.Core.Bool.{Bool, true, false, cond}
+use mathlib.Core.Bool.{true}
 use mathlib.Core.List.{List, [], ◌∷◌, ◌++◌, map, map-append}
-use Prim.Native.Nat.{ℕ, suc, ◌≤◌, ◌<◌, ◌+◌, ◌-◌, ◌*◌}
+use Prim.Native.Nat.{ℕ, ◌≤◌, ◌<◌, ◌+◌, ◌*◌}
 use native.Mathlib.Numerals.{add-one}
 use native.Mathlib.Omega.{arith}
 use lib.ListN.{length, get_or, take, drop, length-map, length-append}
-use lib.Seq.{take-suc, length-take-le, take_at}
+use lib.Seq.{take-suc, length-take-le, take_at, get_or-take}
 use lib.Ieee.{Float}
 use Rattle.limits.specs.Limits.{any_number}
 use Rattle.numeric.specs.Numeric.{all_in_range}
 use Rattle.smoothing.specs.Smoothing.{smoothed}
 use Rattle.smoothing.proofs.Laws.{smoothed-length}
+use Rattle.params.specs.Params.{most_peaks}
 use Rattle.record.specs.declared.ImPeak1D.{ImPeak1D}
 use Rattle.rtrecord.specs.RtRecord.{rt_size, with_rt_peak}
 use Rattle.rtrecord.specs.declared.RtApex.{RtApex}
@@ -21,7 +22,7 @@ use Rattle.rtapex.specs.InTime.{local_peak_of}
 use Rattle.rtparams.specs.declared.RtExpandParams.{RtExpandParams}
 use Rattle.rtsearch.specs.Retention.{listed_apexes}
 use Rattle.rtplaces.specs.Places.{index_at}
-use Rattle.rtsearch.specs.Steps.{RtFound}
+use Rattle.rtsearch.specs.Steps.{Stands, RtFound}
 use Rattle.expandtrace.specs.declared.inner.Way.TheVariants.{AllZero, TooShort, Smoothed}
 use Rattle.expandtrace.specs.Trace.{way_of}
 use Rattle.expandtrace.specs.FallbackPeaks.{placed_all, fallback_peaks, peak_words, Put}
@@ -80,21 +81,21 @@ put-searched lo ids p first e y x t {n = n} {was = was} {is = is} l g h put =
     (h ∙ ap (λ (v : Float). listed_apexes v e.min_sep_sec e.min_width_sec y x t) g) put
 
 -- what writing them asks
-pub listable : {y x t : List Float} {lo : ℕ} {ids : List ℕ} {first out turns bases room long : ℕ} {floor sep width : Float} (found order : List ℕ) (n : ℕ)
-    → Searchable y x t lo ids first out turns bases room long → RtFound floor sep width y x t found order n → Listable y x t found order n lo ids first out
-listable {y = y} found order n s f =
+pub listable : {y x t : List Float} {lo : ℕ} {ids : List ℕ} {first out samples long : ℕ} {floor sep width : Float} (found order : List ℕ) (n : ℕ)
+    → Searchable y x t lo ids first out samples long → RtFound floor sep width y x t found order n → Listable y x t found (take n order) lo ids first out
+listable {y = y} {x = x} found order n s f =
     let few = f.few in
     let named = s.named in
     let wide = s.room in
+    let l : length (take n order) ≡ n = length-take-le n order f.room in
     record {
       raw = s.trace.raw;
       times = s.trace.times;
-      ordered = f.room;
-      stand = f.stand;
+      stand = (λ k h. subst (Stands y x found) (sym (get_or-take n order k 0 (omega (arith, h, l)))) (f.stand k (omega (arith, h, l))));
       frames = s.frames;
       short = s.short;
       named = omega arith;
-      room = omega arith;
+      room = rw l (omega arith);
     }
 
 -- ---- smoothing
@@ -111,9 +112,9 @@ smooth-long ws x was is e =
     omega arith
 
 -- what its search asks
-pub searchable : {x t ws : List Float} {lo : ℕ} {ids : List ℕ} {first out smooth turns bases found order : ℕ} (y : List Float) → y ≡ smoothed ws x
-    → Smoothable x t ws lo ids first out smooth turns bases found order → Searchable y x t lo ids first out turns bases found order
-searchable {x = x} {ws = ws} y e s =
+pub searchable : {x t ws : List Float} {lo : ℕ} {ids : List ℕ} {first out samples order : ℕ} (y : List Float) → y ≡ smoothed ws x
+    → Smoothable x t ws lo ids first out samples → most_peaks samples ≤ order → Searchable y x t lo ids first out samples order
+searchable {x = x} {ws = ws} y e s m =
     let n : length y ≡ length x = ap length e ∙ smoothed-length ws x in
     let numbers : all_in_range any_number y ≡ true = ap (all_in_range any_number) e ∙ s.numbers in
     let cut = s.cut in
@@ -121,18 +122,15 @@ searchable {x = x} {ws = ws} y e s =
     let short = s.short in
     let named = s.named in
     let wide = s.room in
-    let turns = s.search.turns-long in
-    let bases = s.search.bases-long in
-    let found = s.search.found-long in
-    let order = s.order-long in
+    let room = s.search in
     record {
       trace = record {
         numbers = numbers;
         raw = sym n;
         times = cut ∙ sym n;
         short = omega arith;
-        room = record { turns-long = omega arith; bases-long = omega arith; found-long = omega arith };
-        order-long = rw n order;
+        room = omega arith;
+        order-long = omega arith;
       };
       frames = omega arith;
       short = short;

@@ -1,5 +1,5 @@
 -- The retention peaks of a mobility peak over a run.
-use Rattle.std.specs.Prelude.{List, [], ◌∷◌, map, ℕ, length, Float}
+use Rattle.std.specs.Prelude.{Option, Some, None, List, [], ◌∷◌, map, ℕ, length, Float}
 use Rattle.smoothing.specs.Smoothing.{smoothed}
 use Rattle.record.specs.declared.ImPeak1D.{ImPeak1D}
 use Rattle.tof.specs.declared.TofScale.{TofScale}
@@ -7,11 +7,9 @@ use Rattle.frameindex.specs.FrameIndex.{Index}
 use Rattle.noise.specs.Noise.{noise_f}
 use Rattle.rtparams.specs.Modes.{effective_f}
 use Rattle.rtparams.specs.declared.RtExpandParams.{RtExpandParams}
-use Rattle.rtwindow.specs.declared.FrameWindow.{FrameWindow}
-use Rattle.rtwindow.specs.declared.FrameWindow.TheVariants.{Frames, NoFrames}
+use Rattle.rtwindow.specs.declared.Frames.{Frames}
 use Rattle.rtwindow.specs.FrameWindow.{padded_window}
 use Rattle.expandwindow.specs.Window.{cut}
-use Rattle.rtrecord.specs.declared.RtApex.{RtApex}
 use Rattle.rtrecord.specs.declared.RtPeak1D.{RtPeak1D}
 use Rattle.rtapex.specs.InTime.{local_peak_of}
 use Rattle.rtsearch.specs.Retention.{listed_apexes}
@@ -67,14 +65,14 @@ peaks_over run e ws p lo hi first =
     (fallback_peaks x lo run.ids run.times p e.fallback_frac_width first)
     (searched_peaks run e ws p lo hi x first)
 
-unfoldable pub peaks_in : Run → RtExpandParams → List Float → ImPeak1D → ℕ → FrameWindow → List RtPeak1D
-peaks_in run e ws p first NoFrames = []
-peaks_in run e ws p first (Frames lo hi) = peaks_over run e ws p lo hi first
+unfoldable pub peaks_in : Run → RtExpandParams → List Float → ImPeak1D → ℕ → Option Frames → List RtPeak1D
+peaks_in run e ws p first None = []
+peaks_in run e ws p first (Some w) = peaks_over run e ws p w.lo w.hi first
 
 -- ---- over the run
 
 -- the padded frame window of p
-abbrev pub window_in : Run → RtExpandParams → ImPeak1D → FrameWindow
+abbrev pub window_in : Run → RtExpandParams → ImPeak1D → Option Frames
 window_in run e p = padded_window run.ids p.frame_id_lo p.frame_id_hi e.rt_pad_frames
 
 -- the retention peaks of p, with identities from `first` on

@@ -5,7 +5,6 @@ use Rattle.numeric.specs.Numeric.{all_in_range}
 use Rattle.smoothing.specs.Smoothing.{smoothed}
 use Rattle.params.specs.Params.{most_peaks}
 use Rattle.record.specs.declared.ImPeak1D.{ImPeak1D}
-use Rattle.rowsearch.specs.Found.{Room}
 use Rattle.rtparams.specs.declared.RtExpandParams.{RtExpandParams}
 use Rattle.rtrecord.specs.RtRecord.{rt_size}
 use Rattle.rtrecord.specs.declared.RtPeak1D.{RtPeak1D}
@@ -30,27 +29,26 @@ followed e ws ids times p lo x t first =
     (fallback_peaks x lo ids times p e.fallback_frac_width first)
     (apexes_of e lo ids p (smoothed ws x) x t first)
 
--- n apexes of an order that can be written, to a list of `out` words
-pub record Listable (y x t : List Float) (found order : List ℕ) (n lo : ℕ) (ids : List ℕ) (first out : ℕ) : Type 0 where
+-- apexes of an order that can be written, to a list of `out` words
+pub record Listable (y x t : List Float) (found order : List ℕ) (lo : ℕ) (ids : List ℕ) (first out : ℕ) : Type 0 where
   pub raw : length x ≡ length y
   pub times : length t ≡ length y
-  pub ordered : n ≤ length order
-  pub stand : (k : ℕ) → k < n → Stands y x found (get_or order k 0)
+  pub stand : (k : ℕ) → k < length order → Stands y x found (get_or order k 0)
   pub frames : lo + length y ≤ length ids
   pub short : length ids ≤ exact_index
-  pub named : first + n ≤ identities
-  pub room : n * rt_size ≤ out
+  pub named : first + length order ≤ identities
+  pub room : length order * rt_size ≤ out
 
--- a trace of the frames from lo on that can be searched
-pub record Searchable (y x t : List Float) (lo : ℕ) (ids : List ℕ) (first out turns bases found order : ℕ) : Type 0 where
-  pub trace : RtSearchable y x t turns bases found order
+-- a trace of the frames from lo on that can be searched, with scratch for so many samples
+pub record Searchable (y x t : List Float) (lo : ℕ) (ids : List ℕ) (first out samples order : ℕ) : Type 0 where
+  pub trace : RtSearchable y x t samples order
   pub frames : lo + length y ≤ length ids
   pub short : length ids ≤ exact_index
   pub named : first + most_peaks (length y) ≤ identities
   pub room : most_peaks (length y) * rt_size ≤ out
 
 -- a trace that can be smoothed and searched
-pub record Smoothable (x t : List Float) (ws : List Float) (lo : ℕ) (ids : List ℕ) (first out smooth turns bases found order : ℕ) : Type 0 where
+pub record Smoothable (x t : List Float) (ws : List Float) (lo : ℕ) (ids : List ℕ) (first out samples : ℕ) : Type 0 where
   pub numbers : all_in_range any_number (smoothed ws x) ≡ true
   pub few-weights : length ws ≤ max_weights
   pub cut : length t ≡ length x
@@ -58,13 +56,11 @@ pub record Smoothable (x t : List Float) (ws : List Float) (lo : ℕ) (ids : Lis
   pub short : length ids ≤ exact_index
   pub named : first + most_peaks (length x) ≤ identities
   pub room : most_peaks (length x) * rt_size ≤ out
-  pub smooth-long : length x ≤ smooth
-  pub search : Room (length x) turns bases found
-  pub order-long : most_peaks (length x) ≤ order
+  pub search : length x ≤ samples
 
 -- and one that can be left to the fallback too
-pub record Followable (x t : List Float) (ws : List Float) (lo : ℕ) (ids : List ℕ) (times : List Float) (first out smooth turns bases found order : ℕ) : Type 0 where
+pub record Followable (x t : List Float) (ws : List Float) (lo : ℕ) (ids : List ℕ) (times : List Float) (first out samples : ℕ) : Type 0 where
   pub some : 0 < length x
   pub axis : length times ≡ length ids
   pub one : rt_size ≤ out
-  pub search : Smoothable x t ws lo ids first out smooth turns bases found order
+  pub search : Smoothable x t ws lo ids first out samples

@@ -5,7 +5,6 @@ use mathlib.Core.List.{List, ◌++◌, append-nil}
 use Prim.Native.Nat.{ℕ, suc, ◌≤◌, ◌<◌, ◌+◌}
 use native.Mathlib.Numerals.{add-one}
 use native.Mathlib.Omega.{arith}
-use borrow.Author.Tests.{lt-ltb, le-ltb}
 use lib.ListN.{length, drop, drop_of_length-le}
 use lib.Seq.{drop-cons}
 use lib.Ieee.{Float, nan, lt, le}
@@ -17,11 +16,9 @@ use Rattle.rtrecord.specs.RtRecord.{rt_size, rt_words, rt_peak_of}
 use Rattle.rtrecord.specs.declared.RtPeak1D.{RtPeak1D}
 use Rattle.rtplace.specs.Placed.{placed}
 use Rattle.rtplace.proofs.Laws.{sample-most}
-use Rattle.fallback.specs.declared.inner.Fallback.{Fallback}
-use Rattle.fallback.specs.declared.inner.Fallback.TheVariants.{Peak, NoPeak}
+use Rattle.std.specs.Prelude.{Option, Some, None}
 use Rattle.fallback.specs.Fallback.{top_of, centroid, apex_of, fallback_of}
-use Rattle.expandtrace.specs.declared.inner.Way.TheVariants.{AllZero, TooShort, Smoothed}
-use Rattle.expandtrace.specs.Trace.{any_above, way_of}
+use Rattle.expandtrace.specs.Trace.{any_above}
 use Rattle.expandtrace.specs.FallbackPeaks.{apexes_in, placed_all, fallback_peaks, peak_words, Put}
 
 -- ---- values above 0
@@ -41,45 +38,32 @@ pub any-end : (x : List Float) (i : ℕ) (any : Bool) → length x ≤ i → (an
 unfolding any_above
 any-end x i any h = rw (drop_of_length-le x h) (or-false any)
 
--- ---- ways
-pub way-zero : (x : List Float) (least : ℕ) → any_above x ≡ false → AllZero ≡ way_of x least
-unfolding way_of
-way-zero x least e = rw e
-
-pub way-short : (x : List Float) (least : ℕ) → any_above x ≡ true → length x < least → TooShort ≡ way_of x least
-unfolding way_of
-way-short x least e h = rw (e, lt-ltb (length x) least h)
-
-pub way-smoothed : (x : List Float) (least : ℕ) → any_above x ≡ true → least ≤ length x → Smoothed ≡ way_of x least
-unfolding way_of
-way-smoothed x least e h = rw (e, le-ltb (length x) least h)
-
 -- ---- the fallback
 
 -- the index of its apex is one of the trace
-abbrev index_in : Fallback → ℕ
-index_in (Peak p) = p.apex.rt_idx
-index_in NoPeak = 0
+abbrev index_in : Option RtPeak1D → ℕ
+index_in (Some p) = p.apex.rt_idx
+index_in None = 0
 
 pub fallback-inside : (x : List Float) (ids : List ℕ) (times : List Float) (p : ImPeak1D) (frac : Float) (id : ℕ) → 0 < length x → length x ≤ exact_index
     → index_in (fallback_of x ids times p frac id) < length x
 unfolding fallback_of apex_of rt_peak_of
 fallback-inside x ids times p frac id some few = go (le (top_of x).height 𝟎) (rt_peak_of _ _ p id) (sample-most (length x) (floor_f (centroid x (top_of x).place)) some few)
   where
-    go : (b : Bool) (q : RtPeak1D) → q.apex.rt_idx < length x → index_in (cond b NoPeak (Peak q)) < length x
+    go : (b : Bool) (q : RtPeak1D) → q.apex.rt_idx < length x → index_in (cond b None (Some q)) < length x
     go true q h = some
     go false q h = h
 
 pub peak-inside : (x : List Float) (ids : List ℕ) (times : List Float) (p : ImPeak1D) (frac : Float) (id : ℕ) (q : RtPeak1D) → 0 < length x → length x ≤ exact_index
-    → Peak q ≡ fallback_of x ids times p frac id → q.apex.rt_idx < length x
+    → Some q ≡ fallback_of x ids times p frac id → q.apex.rt_idx < length x
 peak-inside x ids times p frac id q some few e = omega (arith, ap index_in e, fallback-inside x ids times p frac id some few)
 
 module _ (x : List Float) (lo : ℕ) (ids : List ℕ) (times : List Float) (p : ImPeak1D) (frac : Float) (id : ℕ) (was : List ℕ) where
-  pub put_one : (q : RtPeak1D) (is : List ℕ) → Peak q ≡ fallback_of x ids times p frac id → is ≡ rt_words (placed lo (length x) ids p q.apex id) ++ drop rt_size was
+  pub put_one : (q : RtPeak1D) (is : List ℕ) → Some q ≡ fallback_of x ids times p frac id → is ≡ rt_words (placed lo (length x) ids p q.apex id) ++ drop rt_size was
       → Put (fallback_peaks x lo ids times p frac id) was 1 is
   unfolding fallback_peaks apexes_in placed_all peak_words
   put_one q is e w = rw (← e) (record { count = refl; words = w ∙ ap (λ (l : List ℕ). l ++ drop rt_size was) (sym (append-nil (rt_words (placed lo (length x) ids p q.apex id)))) })
 
-  pub put-none : NoPeak ≡ fallback_of x ids times p frac id → Put (fallback_peaks x lo ids times p frac id) was 0 was
+  pub put-none : None ≡ fallback_of x ids times p frac id → Put (fallback_peaks x lo ids times p frac id) was 0 was
   unfolding fallback_peaks apexes_in placed_all peak_words
   put-none e = rw (← e) (record { count = refl; words = refl })

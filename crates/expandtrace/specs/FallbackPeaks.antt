@@ -1,18 +1,16 @@
 -- The fallback's peak of a window, placed in the run, and peaks as they are written.
-use Rattle.std.specs.Prelude.{◌≡◌, List, [], ◌∷◌, ◌++◌, ℕ, ◌+◌, ◌*◌, length, drop, Float}
+use Rattle.std.specs.Prelude.{Option, Some, None, ◌≡◌, List, [], ◌∷◌, ◌++◌, ℕ, ◌+◌, ◌*◌, length, drop, Float}
 use Rattle.record.specs.declared.ImPeak1D.{ImPeak1D}
 use Rattle.rtrecord.specs.RtRecord.{rt_size, rt_words}
 use Rattle.rtrecord.specs.declared.RtPeak1D.{RtPeak1D}
 use Rattle.rtrecord.specs.declared.RtApex.{RtApex}
 use Rattle.rtplace.specs.Placed.{placed}
-use Rattle.fallback.specs.declared.inner.Fallback.{Fallback}
-use Rattle.fallback.specs.declared.inner.Fallback.TheVariants.{Peak, NoPeak}
 use Rattle.fallback.specs.Fallback.{fallback_of}
 
 -- the apex of the fallback's peak, if there is one
-unfoldable pub apexes_in : Fallback → List RtApex
-apexes_in NoPeak = []
-apexes_in (Peak p) = p.apex ∷ []
+unfoldable pub apexes_in : Option RtPeak1D → List RtApex
+apexes_in None = []
+apexes_in (Some p) = p.apex ∷ []
 
 -- apexes of the trace of n frames from lo on as retention peaks of p, with identities from `id` on
 unfoldable pub placed_all : ℕ → ℕ → List ℕ → ImPeak1D → List RtApex → ℕ → List RtPeak1D

@@ -2,15 +2,15 @@
 ghost use Rattle.std.specs.Prelude.{◌≡◌, ◌++◌, ◌≤◌, ◌<◌, ◌+◌, ◌-◌, length, drop};
 ghost use Rattle.limits.specs.Limits.{max_count, exact_index};
 ghost use Rattle.tof.specs.Tof.{Sound};
-ghost use Rattle.framesums.specs.Steps.{index_of, Checked};
 ghost use Rattle.rtrecord.specs.RtRecord.{rt_size, rt_words};
 ghost use Rattle.rtplace.specs.Placed.{placed};
 ghost use Rattle.expandtrace.specs.Trace.{trace_over, any_above, way_of};
 ghost use Rattle.expandtrace.specs.FallbackPeaks.{fallback_peaks, Put};
 
-use fallback::inner::Fallback;
+use frameindex::CheckedIndex;
 use record::{ImPeak1D, PeakId};
 use rtrecord::RtApex;
+use rtwindow::Frames;
 use tof::TofScale;
 
 // Which way a mobility peak takes whose frames are known: its trace has no reading above 0, it has fewer frames than are searched, or
@@ -22,30 +22,35 @@ pub enum Way {
     Smoothed,
 }
 
-// The readings of a peak's bins and scans, summed for each of the frames lo to hi. `near` is scratch, a word a frame of the run: where the
+// What the retention peaks of a mobility peak are made of besides its trace over the frames from `lo` on: the numbers and the times of all
+// frames of the run, the mobility peak, and the identity of the first.
+#[derive(Clone, Copy)]
+pub struct Placing<'a> {
+    pub lo: usize,
+    pub ids: &'a [u32],
+    pub times: &'a [f32],
+    pub peak: ImPeak1D,
+    pub first: PeakId,
+}
+
+// The readings of a peak's bins and scans, summed for each of some frames. `near` is scratch, a word a frame of the run: where the
 // search of that frame begins.
+#[tactic(auto, unfolding(crate::specs::Trace::trace_over))]
 pub fn put_trace(
-    starts: &[u32],
-    bins: &[u32],
-    offsets: &[u32],
-    scans: &[u32],
-    readings: &[f32],
+    ix: &CheckedIndex,
     scale: TofScale,
     pad: u32,
     p: ImPeak1D,
-    lo: usize,
-    hi: usize,
+    frames: Frames,
     near: &mut [u32],
     out: &mut [f32],
 )
-    requires { Checked (index_of starts.now bins.now offsets.now scans.now readings.now) × Sound scale × (pad ≤ max_count) × (lo ≤ hi) × (hi + 1 < length starts.now) × (hi + 1 - lo ≤ length out.old) × (hi < length near.old) }
-    ensures { out.new ≡ trace_over (index_of starts.now bins.now offsets.now scans.now readings.now) scale pad p lo hi ++ drop (hi + 1 - lo) out.old }
+    requires { Sound scale × (pad ≤ max_count) × (frames.lo ≤ frames.hi) × (frames.hi + 1 < length ix.now.starts) × (frames.hi + 1 - frames.lo ≤ length out.old) × (frames.hi < length near.old) }
+    ensures { out.new ≡ trace_over ix.now scale pad p frames.lo frames.hi ++ drop (frames.hi + 1 - frames.lo) out.old }
 {
     let w = windows::inner::peak_window(scale, pad, p);
-    let n = hi - lo + 1;
-    nearsums::inner::put_frame_sums_near(
-        starts, bins, offsets, scans, readings, lo, n, w, near, out,
-    );
+    let n = frames.hi + 1 - frames.lo;
+    nearsums::inner::put_frame_sums_near(ix, frames.lo, n, w, near, out);
 }
 
 // Whether a value is above 0.
@@ -53,62 +58,52 @@ fn any_above(x: &[f32]) -> bool
     ensures { result ≡ any_above x.now }
 {
     let mut any = false;
-    for i in 0..x.len() {
-        any = any | (0.0 < x[i]);
+    for &v in x {
+        any |= 0.0 < v;
     }
     any
 }
 
+#[tactic(auto, unfolding(crate::specs::Trace::way_of))]
 pub fn way_of(x: &[f32], least: u32) -> Way
     ensures { result ≡ way_of x.now least }
 {
-    if any_above(x) {
-        if x.len() < least as usize {
-            return Way::TooShort;
-        }
-        return Way::Smoothed;
+    if !any_above(x) {
+        return Way::AllZero;
     }
-    Way::AllZero
+    if x.len() < least as usize {
+        Way::TooShort
+    } else {
+        Way::Smoothed
+    }
 }
 
-// Writes the retention peak of an apex of the trace of n frames from `lo` on to place k of `out`.
-pub fn put_apex(
-    lo: usize,
-    n: usize,
-    ids: &[u32],
-    p: ImPeak1D,
-    a: RtApex,
-    id: PeakId,
-    out: &mut [u32],
-)
-    requires { (0 < n) × (lo + n ≤ length ids.now) × (length ids.now ≤ exact_index) × (a.rt_idx < n) × (rt_size ≤ length out.old) }
-    ensures { out.new ≡ rt_words (placed lo n ids.now p a id) ++ drop rt_size out.old }
-{
-    rtrecord::inner::put_rt_peak(out, 0, rtplace::inner::place_apex(lo, n, ids, p, a, id));
-}
+impl<'a> Placing<'a> {
+    // Writes the retention peak of an apex of the trace of n frames to the front of `out`.
+    #[tactic(auto, unfolding(rtrecord::specs::RtRecord::with_rt_peak))]
+    fn put_apex(self, n: usize, a: RtApex, out: &mut [u32])
+        requires { (0 < n) × (self.lo + n ≤ length self.ids.now) × (length self.ids.now ≤ exact_index) × (a.rt_idx < n) × (rt_size ≤ length out.old) }
+        ensures { out.new ≡ rt_words (placed self.entry.lo n self.entry.ids.now self.entry.peak a self.entry.first) ++ drop rt_size out.old }
+    {
+        let q = rtplace::inner::place_apex(self.lo, n, self.ids, self.peak, a, self.first);
+        rtrecord::inner::put_rt_peak(out, 0, q);
+    }
 
-// Writes the fallback's peak of the trace of the frames from `lo` on to the front of `out`, if there is one, and answers how many were
-// written. The fallback is handed the times and the numbers of the whole run.
-pub fn put_fallback(
-    x: &[f32],
-    lo: usize,
-    ids: &[u32],
-    times: &[f32],
-    p: ImPeak1D,
-    frac: f32,
-    id: PeakId,
-    out: &mut [u32],
-) -> usize
-    requires { (0 < length x.now) × (lo + length x.now ≤ length ids.now) × (length ids.now ≤ exact_index) × (0 < length times.now) × (rt_size ≤ length out.old) }
-    ensures { Put (fallback_peaks x.now lo ids.now times.now p frac id) out.old result out.new }
-{
-    let found = fallback::inner::fallback_rt_peak_from_trace(x, ids, times, p, frac, id);
-    match found {
-        Fallback::Peak(peak) => {
-            let a = peak.apex;
-            put_apex(lo, x.len(), ids, p, a, id, out);
-            1
+    // Writes the fallback's peak of the trace to the front of `out`, if there is one, and answers how many were written. The fallback is handed
+    // the times and the numbers of the whole run.
+    pub fn put_fallback(self, x: &[f32], frac: f32, out: &mut [u32]) -> usize
+        requires { (0 < length x.now) × (self.lo + length x.now ≤ length self.ids.now) × (length self.ids.now ≤ exact_index) × (0 < length self.times.now) × (rt_size ≤ length out.old) }
+        ensures { Put (fallback_peaks x.now self.entry.lo self.entry.ids.now self.entry.times.now self.entry.peak frac self.entry.first) out.old result out.new }
+    {
+        let found = fallback::inner::fallback_rt_peak_from_trace(
+            x, self.ids, self.times, self.peak, frac, self.first,
+        );
+        match found {
+            Some(q) => {
+                self.put_apex(x.len(), q.apex, out);
+                1
+            }
+            None => 0,
         }
-        Fallback::NoPeak => 0,
     }
 }

@@ -8,8 +8,6 @@ use lib.Dec.{eqb, leb}
 use lib.ListN.{length}
 use lib.Ieee.{Float}
 use Rattle.refusal.proofs.Bools.{both, all3, all5}
-use Rattle.refusal.specs.AnswersLaws.{from_says}
-use Rattle.refusal.proofs.AnswersLaws.{which}
 use Rattle.limits.specs.Limits.{max_frames}
 use Rattle.params.specs.Params.{rising}
 use Rattle.record.specs.Record.{peak_at, sound_tof, sound_frames, sound, all_sound}
@@ -17,10 +15,8 @@ use Rattle.record.specs.declared.ImPeak1D.{ImPeak1D}
 use Rattle.refusal.specs.Refusal.{first_of, ascending_from}
 use Rattle.refusal.proofs.RefusalLaws.{lowest_by, none-by, applies_for}
 use Rattle.rtparams.specs.declared.RtExpandParams.{RtExpandParams}
-use Rattle.expandwindow.specs.declared.WindowAnswer.{WindowAnswer}
-use Rattle.expandwindow.specs.declared.WindowAnswer.TheVariants.{Window, NoWindow, Refused}
-use Rattle.expandwindow.specs.Window.{window_checks, window_number, window_says}
-use Rattle.expandwindow.specs.WindowLaws.{WindowLowest, answer_of, WindowTold}
+use Rattle.expandwindow.specs.Window.{window_checks, window_number}
+use Rattle.expandwindow.specs.WindowLaws.{WindowLowest}
 
 module _ (peak ids : List ℕ) (times : List Float) (e : RtExpandParams) where
   pub number_is : window_number peak ids times e ≡ first_of (window_checks peak ids times e)
@@ -70,13 +66,3 @@ ready peak ids times e z =
       rise = (both (rising ids) (not-false _ (n 7 z))).0;
       sound = first-sound peak (not-false _ (n 9 z));
     }
-
--- ---- which answer it is
-
-again : (r : WindowAnswer) → r ≡ from_says answer_of Refused (window_says r)
-again (Window lo hi sigma) = refl
-again NoWindow = refl
-again (Refused n) = refl
-
-pub window-which : WindowTold
-window-which r n w e = which answer_of Refused window_says again r n w e

@@ -1,10 +1,8 @@
 -- The first call of expansion.
-use Rattle.std.specs.Prelude.{not, ◌&&◌, List, [], ◌∷◌, ℕ, ◌+◌, ◌-◌, ltb, eqb, length, take, drop, Float}
-use Rattle.std.proofs.Math.Option.{none, some}
+use Rattle.std.specs.Prelude.{not, ◌&&◌, List, [], ◌∷◌, ℕ, ◌+◌, ◌-◌, ltb, eqb, length, take, drop, Option, Some, None, Float}
 use Rattle.std.specs.Float.{binary32}
 use Rattle.std.specs.Float.Ieee.{of_bits}
 use Rattle.refusal.specs.Refusal.{Check, first_of}
-use Rattle.refusal.specs.Answers.{Says}
 use Rattle.limits.specs.Limits.{max_frames, max_seconds}
 use Rattle.numeric.specs.Arith.{◌⊘◌}
 use Rattle.numeric.specs.Numeric.{max_f, all_in_range}
@@ -15,13 +13,9 @@ use Rattle.rttime.specs.Time.{never_falls}
 use Rattle.noise.specs.Noise.{dt_f}
 use Rattle.rtparams.specs.Expand.{sound_expand}
 use Rattle.rtparams.specs.declared.RtExpandParams.{RtExpandParams}
-use Rattle.rtwindow.specs.declared.FrameWindow.{FrameWindow}
-use Rattle.rtwindow.specs.declared.FrameWindow.TheVariants.{Frames, NoFrames}
+use Rattle.rtwindow.specs.declared.Frames.{Frames}
 use Rattle.rtwindow.specs.FrameWindow.{padded_window}
 use Rattle.expandwindow.specs.declared.inner.RtWindow.{RtWindow}
-use Rattle.expandwindow.specs.declared.inner.RtWindow.TheVariants.{Over, Nowhere}
-use Rattle.expandwindow.specs.declared.WindowAnswer.{WindowAnswer}
-use Rattle.expandwindow.specs.declared.WindowAnswer.TheVariants.{Window, NoWindow, Refused}
 
 -- of a list with a value a frame, the values of the frames lo to hi
 abbrev pub cut : {A : Type 0} → ℕ → ℕ → List A → List A
@@ -36,12 +30,12 @@ unfoldable pub sigma_over : Float → List Float → ℕ → ℕ → Float
 sigma_over sec times lo hi = max_f (sec ⊘ dt_f (cut lo hi times)) least_sigma
 
 -- a window with its sigma
-unfoldable pub with_sigma : Float → List Float → FrameWindow → RtWindow
-with_sigma sec times NoFrames = Nowhere
-with_sigma sec times (Frames lo hi) = Over lo hi (sigma_over sec times lo hi)
+unfoldable pub with_sigma : Float → List Float → Option Frames → Option RtWindow
+with_sigma sec times None = None
+with_sigma sec times (Some w) = Some (record { lo = w.lo; hi = w.hi; sigma = sigma_over sec times w.lo w.hi })
 
--- The padded frame window of a mobility peak in a run with these frame numbers and times, with its sigma.
-unfoldable pub window_of : List ℕ → List Float → RtExpandParams → ImPeak1D → RtWindow
+-- The padded frame window of a mobility peak in a run with these frame numbers and times, with its sigma, if it has one.
+unfoldable pub window_of : List ℕ → List Float → RtExpandParams → ImPeak1D → Option RtWindow
 window_of ids times e p =
     with_sigma e.smooth_sigma_sec times (padded_window ids p.frame_id_lo p.frame_id_hi e.rt_pad_frames)
 
@@ -60,9 +54,3 @@ window_checks peak ids times e =
 
 unfoldable pub window_number : List ℕ → List ℕ → List Float → RtExpandParams → ℕ
 window_number peak ids times e = first_of (window_checks peak ids times e)
-
--- what an answer says: the window or that there is none, or the number that applies
-abbrev pub window_says : WindowAnswer → Says RtWindow
-window_says (Window lo hi sigma) = record { number = 0; values = some (Over lo hi sigma) }
-window_says NoWindow = record { number = 0; values = some Nowhere }
-window_says (Refused n) = record { number = n; values = none }

@@ -5,41 +5,36 @@ pub mod inner;
 
 ghost use Rattle.std.specs.Prelude.{◌≡◌};
 ghost use Rattle.refusal.specs.Answers.{answer_by};
+ghost use Rattle.refusal.specs.Numbered.{number_in, says};
 ghost use Rattle.record.specs.Record.{peak_at};
-ghost use Rattle.expandwindow.specs.Window.{window_of, window_number, window_says};
+ghost use Rattle.expandwindow.specs.Window.{window_of, window_number};
 
 use inner::RtWindow;
 use record::ImPeak1D;
+use refusal::Refusal;
 use rtparams::RtExpandParams;
 
-#[derive(Clone, Copy)]
-pub enum WindowAnswer {
-    Window(usize, usize, f32),
-    NoWindow,
-    Refused(u32),
-}
-
-// The lowest number that applies, or 0.
-fn number(peak: &[u32], ids: &[u32], times: &[f32], e: RtExpandParams) -> u32
-    ensures { result ≡ window_number peak.now ids.now times.now e }
+// Refuses with the lowest number that applies.
+#[tactic(auto, unfolding(crate::specs::Window::window_number, refusal::specs::Refusal::first_of))]
+fn check(peak: &[u32], ids: &[u32], times: &[f32], e: RtExpandParams) -> Result<(), Refusal>
+    ensures { number_in result ≡ window_number peak.now ids.now times.now e }
 {
     if !((peak.len() == ImPeak1D::WORDS) & (times.len() == ids.len())) {
-        return 1;
+        return Err(Refusal::Lengths);
     }
     if ids.len() > limits::MAX_FRAMES {
-        return 2;
+        return Err(Refusal::Size);
     }
-    let sound = rtparams::inner::sound_expand_params(e);
-    if !(sound & numeric::inner::all_in_range(times, limits::MAX_SECONDS)) {
-        return 4;
+    if !(e.is_sound() & numeric::inner::all_in_range(times, limits::MAX_SECONDS)) {
+        return Err(Refusal::Value);
     }
     if !(params::inner::is_rising(ids) & rttime::inner::never_falls(times)) {
-        return 7;
+        return Err(Refusal::Order);
     }
     if !record::inner::all_sound(peak, 1) {
-        return 9;
+        return Err(Refusal::Record);
     }
-    0
+    Ok(())
 }
 
 // The padded frame window of the peak whose record is handed in, the first frame and the last by their places in the run, and the
@@ -49,18 +44,11 @@ pub fn expand_im_peak_window(
     ids: &[u32],
     times: &[f32],
     e: RtExpandParams,
-) -> WindowAnswer
-    ensures { window_says result ≡ answer_by (window_number peak.now ids.now times.now e)
+) -> Result<Option<RtWindow>, Refusal>
+    ensures { says result ≡ answer_by (window_number peak.now ids.now times.now e)
         (window_of ids.now times.now e (peak_at peak.now 0)) }
 {
-    let no = number(peak, ids, times, e);
-    if no != 0 {
-        return WindowAnswer::Refused(no);
-    }
+    check(peak, ids, times, e)?;
     let p = record::inner::peak_at(peak, 0);
-    let w = inner::window_of(ids, times, e, p);
-    match w {
-        RtWindow::Over(lo, hi, sigma) => WindowAnswer::Window(lo, hi, sigma),
-        RtWindow::Nowhere => WindowAnswer::NoWindow,
-    }
+    Ok(inner::window_of(ids, times, e, p))
 }

@@ -1,6 +1,6 @@
--- What the number of a trace says, and which answer it is.
-use mathlib.Core.Path.{◌≡◌, refl, ◌∙◌, ap}
-use mathlib.Core.Bool.{true, false, cond}
+-- What the number of a trace says.
+use mathlib.Core.Path.{◌≡◌, refl}
+use mathlib.Core.Bool.{true, false}
 use mathlib.Core.List.{List}
 use Prim.Native.Nat.{ℕ, ◌≤◌}
 use native.Mathlib.Omega.{arith}
@@ -9,20 +9,13 @@ use lib.Dec.{eqb, leb}
 use lib.ListN.{length}
 use lib.Ieee.{Float}
 use Rattle.refusal.specs.Refusal.{first_of, ascending_from}
-use Rattle.refusal.specs.Answers.{answer_by}
-use Rattle.refusal.specs.AnswersLaws.{from_says}
 use Rattle.refusal.proofs.RefusalLaws.{lowest_by, none-by, applies_for}
-use Rattle.refusal.proofs.AnswersLaws.{which}
 use Rattle.refusal.proofs.Bools.{both, all3}
 use Rattle.limits.specs.Limits.{max_frames, exact_index}
 use Rattle.record.specs.Record.{size}
 use Rattle.rtrecord.specs.RtRecord.{rt_size}
-use Rattle.fallback.specs.declared.inner.Fallback.{Fallback}
-use Rattle.fallback.specs.declared.inner.Fallback.TheVariants.{Peak as Found, NoPeak as NotFound}
-use Rattle.fallback.specs.declared.FallbackAnswer.{FallbackAnswer}
-use Rattle.fallback.specs.declared.FallbackAnswer.TheVariants.{Peak, NoPeak, Refused}
-use Rattle.fallback.specs.FallbackNumber.{fallback_lengths, fallback_sizes, fallback_checks, fallback_number, fallback_says, count_of, answer_of}
-use Rattle.fallback.specs.FallbackNumberLaws.{FallbackLowest, FallbackTold}
+use Rattle.fallback.specs.FallbackNumber.{fallback_lengths, fallback_sizes, fallback_checks, fallback_number}
+use Rattle.fallback.specs.FallbackNumberLaws.{FallbackLowest}
 
 module _ (trace : List Float) (ids : List ℕ) (times : List Float) (peak : List ℕ) (frac : Float) (room : ℕ) where
   pub number_is : fallback_number trace ids times peak frac room ≡ first_of (fallback_checks trace ids times peak frac room)
@@ -41,29 +34,6 @@ module _ (trace : List Float) (ids : List ℕ) (times : List Float) (peak : List
 pub number-lowest : FallbackLowest
 number-lowest trace ids times peak frac room h =
     lowest_by (fallback_checks trace ids times peak frac room) (number_is trace ids times peak frac room) (ascending trace ids times peak frac room) h
-
--- ---- an answer is told by what it says
-
-abbrev accepted : ℕ → FallbackAnswer
-accepted count = cond (eqb count 0) NoPeak Peak
-
-again : (r : FallbackAnswer) → r ≡ from_says accepted Refused (fallback_says r)
-again Peak = refl
-again NoPeak = refl
-again (Refused n) = refl
-
-answer-is : (f : Fallback) → accepted (count_of f) ≡ answer_of f
-answer-is (Found p) = refl
-answer-is NotFound = refl
-
-pub fallback-which : FallbackTold
-fallback-which r n f e =
-    which accepted Refused fallback_says again r n (count_of f) e ∙ ap (λ (a : FallbackAnswer). cond (eqb n 0) a (Refused n)) (answer-is f)
-
--- and the answer to a peak or to none says its count
-pub says_of : (f : Fallback) → fallback_says (answer_of f) ≡ answer_by 0 (count_of f)
-says_of (Found p) = refl
-says_of NotFound = refl
 
 -- ---- what holds of a trace to which no number applies
 

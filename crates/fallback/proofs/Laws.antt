@@ -13,7 +13,7 @@ use Rattle.apex.specs.Apex.{least}
 use Rattle.record.specs.declared.ImPeak1D.{ImPeak1D}
 use Rattle.fallback.specs.Fallback.{top_from, top_of, sums_from, fallback_of}
 use Rattle.fallback.specs.declared.inner.Top.{Top}
-use Rattle.fallback.specs.declared.inner.Fallback.TheVariants.{NoPeak}
+use Rattle.std.specs.Prelude.{None}
 
 -- ---- the highest reading
 
@@ -71,7 +71,7 @@ least-end y i m h = rw (drop_of_length-le y h)
 
 -- ---- an empty trace has no peak
 
-pub none-of-none : (y : List Float) (ids : List ℕ) (t : List Float) (p : ImPeak1D) (frac : Float) (id : ℕ) → length y ≡ 0 → NoPeak ≡ fallback_of y ids t p frac id
+pub none-of-none : (y : List Float) (ids : List ℕ) (t : List Float) (p : ImPeak1D) (frac : Float) (id : ℕ) → length y ≡ 0 → None ≡ fallback_of y ids t p frac id
 unfolding fallback_of top_from le of_bits
 none-of-none [] ids t p frac id h = refl
 none-of-none (v ∷ vs) ids t p frac id h = absurd (omega arith)

@@ -1,7 +1,7 @@
 -- The fallback: one retention peak of a trace that is too short to be searched, or in which the search lists no apex. Its height
 -- is that of the highest reading, its place the centre of mass, and its ends are where the trace falls to a share of the height. Frames
 -- are those of the trace. Every operation is rounded once, in this order.
-use Rattle.std.specs.Prelude.{cond, List, [], ◌∷◌, ℕ, suc, ◌-◌, min, max, eqb, length, get_or, Float}
+use Rattle.std.specs.Prelude.{cond, List, [], ◌∷◌, ℕ, suc, ◌-◌, min, max, eqb, length, get_or, Option, Some, None, Float}
 use Rattle.std.specs.Float.{binary32}
 use Rattle.std.specs.Float.Ieee.{lt, le, neg, of_bits}
 use Rattle.numeric.specs.Arith.{◌⊕◌, ◌⊖◌, ◌⊗◌, ◌⊘◌, 𝟎, ½, 𝟏, index_f}
@@ -15,10 +15,9 @@ use Rattle.rttime.specs.Time.{time_between}
 use Rattle.rtrecord.specs.RtRecord.{rt_peak_of}
 use Rattle.rtrecord.specs.declared.RtApex.{RtApex}
 use Rattle.rtrecord.specs.declared.RtBounds.{RtBounds}
+use Rattle.rtrecord.specs.declared.RtPeak1D.{RtPeak1D}
 use Rattle.fallback.specs.declared.inner.Top.{Top}
 use Rattle.fallback.specs.declared.inner.Sums.{Sums}
-use Rattle.fallback.specs.declared.inner.Fallback.{Fallback}
-use Rattle.fallback.specs.declared.inner.Fallback.TheVariants.{Peak, NoPeak}
 
 abbrev pub ∞ : Float
 ∞ = of_bits binary32 0x7f80_0000
@@ -99,8 +98,8 @@ bounds_of ids p left right =
 -- height (spans/specs/Span.antt). Where the trace does not fall so far, the line through its two outermost readings on that side
 -- is continued (`left_crossing` in apex/specs/Apex.antt), so that an end can lie outside of the trace, or on the wrong side of the
 -- other end. There is no peak where no reading is above 0.
-unfoldable pub fallback_of : List Float → List ℕ → List Float → ImPeak1D → Float → ℕ → Fallback
+unfoldable pub fallback_of : List Float → List ℕ → List Float → ImPeak1D → Float → ℕ → Option RtPeak1D
 fallback_of y ids t p frac id =
     let top = top_of y in
     let s = span_of y y (frac ⊗ top.height) top.place in
-    cond (le top.height 𝟎) NoPeak (Peak (rt_peak_of (apex_of y t top s) (bounds_of ids p s.left s.right) p id))
+    cond (le top.height 𝟎) None (Some (rt_peak_of (apex_of y t top s) (bounds_of ids p s.left s.right) p id))

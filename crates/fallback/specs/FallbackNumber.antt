@@ -1,8 +1,6 @@
--- Which number of document 01 a trace is answered with, 0 for none, and what an answer says.
-use Rattle.std.specs.Prelude.{Bool, cond, not, ◌&&◌, List, [], ◌∷◌, ◌++◌, ℕ, leb, ltb, eqb, length, drop, Float}
-use Rattle.std.proofs.Math.Option.{none, some}
+-- Which number of document 01 a trace is answered with, 0 for none, and with how many peaks.
+use Rattle.std.specs.Prelude.{Bool, cond, not, ◌&&◌, List, [], ◌∷◌, ◌++◌, ℕ, leb, ltb, eqb, length, drop, Option, Some, None, Float}
 use Rattle.refusal.specs.Refusal.{Check, first_of}
-use Rattle.refusal.specs.Answers.{Says}
 use Rattle.limits.specs.Limits.{max_reading, max_seconds, max_frames}
 use Rattle.numeric.specs.Numeric.{all_in_range}
 use Rattle.record.specs.Record.{size, peak_at, sound}
@@ -10,11 +8,8 @@ use Rattle.params.specs.Params.{rising}
 use Rattle.rttime.specs.Time.{never_falls}
 use Rattle.rtparams.specs.Expand.{is_fraction}
 use Rattle.rtrecord.specs.RtRecord.{rt_size, rt_words}
+use Rattle.rtrecord.specs.declared.RtPeak1D.{RtPeak1D}
 use Rattle.fallback.specs.Fallback.{fallback_of}
-use Rattle.fallback.specs.declared.inner.Fallback.{Fallback}
-use Rattle.fallback.specs.declared.inner.Fallback.TheVariants.{Peak as Found, NoPeak as NotFound}
-use Rattle.fallback.specs.declared.FallbackAnswer.{FallbackAnswer}
-use Rattle.fallback.specs.declared.FallbackAnswer.TheVariants.{Peak, NoPeak, Refused}
 
 -- ---- the number
 
@@ -52,27 +47,17 @@ fallback_number trace ids times peak frac room = first_of (fallback_checks trace
 
 -- ---- the answer
 
--- what an answer says: the count of peaks, 1 or 0, or the number that applies
-abbrev pub fallback_says : FallbackAnswer → Says ℕ
-fallback_says Peak = record { number = 0; values = some 1 }
-fallback_says NoPeak = record { number = 0; values = some 0 }
-fallback_says (Refused n) = record { number = n; values = none }
-
-abbrev pub count_of : Fallback → ℕ
-count_of (Found p) = 1
-count_of NotFound = 0
-
-abbrev pub answer_of : Fallback → FallbackAnswer
-answer_of (Found p) = Peak
-answer_of NotFound = NoPeak
+abbrev pub count_of : Option RtPeak1D → ℕ
+count_of (Some p) = 1
+count_of None = 0
 
 -- a list with the peak's words at its front, or as it was
-abbrev pub with_fallback : List ℕ → Fallback → List ℕ
-with_fallback out (Found p) = rt_words p ++ drop rt_size out
-with_fallback out NotFound = out
+abbrev pub with_fallback : List ℕ → Option RtPeak1D → List ℕ
+with_fallback out (Some p) = rt_words p ++ drop rt_size out
+with_fallback out None = out
 
 -- the peak of a trace of the mobility peak with the record `peak`, its count, and the lent list afterwards
-abbrev pub fallback_peak : List Float → List ℕ → List Float → List ℕ → Float → ℕ → Fallback
+abbrev pub fallback_peak : List Float → List ℕ → List Float → List ℕ → Float → ℕ → Option RtPeak1D
 fallback_peak trace ids times peak frac first = fallback_of trace ids times (peak_at peak 0) frac first
 
 abbrev pub fallback_count : List Float → List ℕ → List Float → List ℕ → Float → ℕ → ℕ

@@ -22,20 +22,13 @@ pub struct Sums {
     pub moment: f32,
 }
 
-#[derive(Clone, Copy)]
-pub enum Fallback {
-    Peak(RtPeak1D),
-    NoPeak,
-}
-
 // The highest reading above 0: of equal ones the first, of none the height 0.
 fn top_of(y: &[f32]) -> Top
     ensures { result ≡ top_of y.now }
 {
     let mut place = 0;
     let mut height = 0.0;
-    for i in 0..y.len() {
-        let v = y[i];
+    for (i, &v) in y.iter().enumerate() {
         if v > height {
             height = v;
             place = i;
@@ -50,9 +43,9 @@ fn sums_of(y: &[f32]) -> Sums
 {
     let mut mass = 0.0;
     let mut moment = 0.0;
-    for i in 0..y.len() {
-        mass = mass + y[i];
-        moment = moment + numeric::inner::of_index(i) * y[i];
+    for (i, &v) in y.iter().enumerate() {
+        mass += v;
+        moment += numeric::inner::of_index(i) * v;
     }
     Sums { mass, moment }
 }
@@ -62,8 +55,7 @@ fn least_of(y: &[f32]) -> f32
     ensures { result ≡ least ∞ y.now }
 {
     let mut m = numeric::float_of(0x7f80_0000);
-    for i in 0..y.len() {
-        let v = y[i];
+    for &v in y {
         if v < m {
             m = v;
         }
@@ -89,7 +81,7 @@ fn time_of(t: &[f32], i: u32, sub: f32) -> f32
     requires { 0 < length t.now }
     ensures { result ≡ time_of t.now i sub }
 {
-    let j = rttime::inner::smaller(i as usize, t.len() - 1);
+    let j = (i as usize).min(t.len() - 1);
     let x = sub + numeric::of_u32(i) - numeric::of_u32(j as u32);
     rttime::inner::time_between(t, j, numeric::clamp(x, 0.0, 1.0))
 }
@@ -99,7 +91,7 @@ fn number_at(ids: &[u32], k: u32) -> u32
     requires { 0 < length ids.now }
     ensures { result ≡ number_at ids.now k }
 {
-    let at = rttime::inner::smaller(k as usize, ids.len() - 1);
+    let at = (k as usize).min(ids.len() - 1);
     ids[at]
 }
 
@@ -107,8 +99,8 @@ fn number_at(ids: &[u32], k: u32) -> u32
 fn bounds_of(ids: &[u32], p: ImPeak1D, left: u32, right: u32) -> RtBounds
     ensures { result ≡ bounds_of ids.now p left right }
 {
-    let rt_lo = numeric::inner::lower(left, right);
-    let rt_hi = numeric::inner::higher(left, right);
+    let rt_lo = left.min(right);
+    let rt_hi = left.max(right);
     if ids.len() == 0 {
         return RtBounds {
             rt_lo,
@@ -122,8 +114,8 @@ fn bounds_of(ids: &[u32], p: ImPeak1D, left: u32, right: u32) -> RtBounds
     RtBounds {
         rt_lo,
         rt_hi,
-        frame_id_lo: numeric::inner::lower(a, b),
-        frame_id_hi: numeric::inner::higher(a, b),
+        frame_id_lo: a.min(b),
+        frame_id_hi: a.max(b),
     }
 }
 
@@ -162,16 +154,16 @@ pub fn fallback_rt_peak_from_trace(
     p: ImPeak1D,
     frac: f32,
     id: PeakId,
-) -> Fallback
+) -> Option<RtPeak1D>
     requires { (length trace.now ≤ exact_index) × (0 < length trace.now → 0 < length times.now) }
     ensures { result ≡ fallback_of trace.now ids.now times.now p frac id }
 {
     if trace.len() == 0 {
-        return Fallback::NoPeak;
+        return None;
     }
     let top = top_of(trace);
     if top.height <= 0.0 {
-        return Fallback::NoPeak;
+        return None;
     }
     let threshold = frac * top.height;
     let place = top.place;
@@ -179,5 +171,5 @@ pub fn fallback_rt_peak_from_trace(
     let span = spans::inner::span_of(trace, trace, threshold, place, reach);
     let apex = apex_of(trace, times, top, span);
     let bounds = bounds_of(ids, p, span.left, span.right);
-    Fallback::Peak(rtrecord::inner::rt_peak_of(apex, bounds, p, id))
+    Some(rtrecord::inner::rt_peak_of(apex, bounds, p, id))
 }

@@ -3,7 +3,7 @@ use mathlib.Core.Path.{◌≡◌, refl, sym, ◌∙◌}
 use mathlib.Core.Bool.{true, false, not}
 use mathlib.Core.Option.{none, some}
 use mathlib.Core.List.{List, ◌++◌}
-use Prim.Native.Nat.{ℕ, ◌+◌}
+use Prim.Native.Nat.{ℕ}
 use borrow.Author.Tests.{not-false, not-true, ne_eqb, eqb-true}
 use lib.Dec.{ltb}
 use lib.ListN.{length, drop}
@@ -14,8 +14,9 @@ use Rattle.refusal.proofs.AnswersLaws.{says-number, says-values}
 use Rattle.refusal.proofs.Bools.{both, all3}
 use Rattle.frameindex.specs.declared.inner.Seen.{Seen}
 use Rattle.frameindex.specs.declared.numbers.Further.{Further}
-use Rattle.frameindex.specs.FrameIndex.{Index, agreeing, too_large, sound_index, seen_in}
+use Rattle.frameindex.specs.FrameIndex.{Index, Checked, agreeing, too_large, seen_in}
 use Rattle.frameindex.specs.IndexNumber.{index_checks, index_number, Front}
+pub use Rattle.frameindex.specs.IndexNumber.{Accepted}
 use Rattle.frameindex.specs.IndexNumberLaws.{IndexLowest}
 
 module _ (limit : ℕ) (ix : Index) (f : Further) where
@@ -40,22 +41,6 @@ pub seen-number : (limit : ℕ) (ix : Index) (s : Seen) (f g : Further) (n : ℕ
 unfolding index_number
 seen-number limit ix s f g n e d h = rw (e, d) at h
 
--- what holds of a call that no number refuses
-pub record Accepted (ix : Index) (f : Further) : Type 0 where
-  pub some : ltb 0 (length ix.starts) ≡ true
-  pub offsets : length ix.offsets ≡ length ix.bins + 1
-  pub readings : length ix.scans ≡ length ix.readings
-  pub small : too_large ix ≡ false
-  pub sound : sound_index ix ≡ true
-  pub lengths : f.lengths ≡ true
-  pub sizes : f.sizes ≡ true
-  pub values : f.values ≡ true
-  pub axes : f.axes ≡ true
-  pub records : f.records ≡ true
-  pub room : f.room ≡ true
-  pub scratch : f.scratch ≡ true
-  pub scale : f.scale ≡ true
-
 pub accepted : (limit : ℕ) (ix : Index) (f : Further) → index_number limit ix f ≡ 0 → Accepted ix f
 unfolding seen_in
 accepted limit ix f e =
@@ -78,6 +63,10 @@ accepted limit ix f e =
       scratch = not-false _ (none-for limit ix f 21 e);
       scale = not-false _ (none-for limit ix f 22 e);
     }
+
+-- its index is a checked one
+pub checked : (ix : Index) (f : Further) → Accepted ix f → Checked ix
+checked ix f a = record { sound = a.sound; offsets = a.offsets; readings = sym a.readings }
 
 -- ---- what is left
 

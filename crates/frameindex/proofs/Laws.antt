@@ -5,7 +5,7 @@ use mathlib.Core.List.{List, [], ◌∷◌}
 use Prim.Native.Nat.{ℕ, zero, suc, ◌≤◌, ◌<◌, ◌+◌, ◌-◌}
 use native.Mathlib.Numerals.{add-one, sub-one}
 use native.Mathlib.Omega.{arith}
-use borrow.Author.Tests.{leb-true, ltb-true, ltb-false, eqb-true, eqb-false, lt-ltb, le-ltb, eq-eqb, ne_eqb}
+use borrow.Author.Tests.{leb-true, ltb-true, ltb-false, eqb-true, lt-ltb, le-ltb}
 use lib.Dec.{leb, ltb, eqb}
 use lib.ListN.{length, get_or, drop, length-drop, drop_of_length-le}
 use lib.Seq.{drop-cons, get_or-take, get_or-drop, length-take-le}
@@ -168,14 +168,6 @@ frame-up bins starts f j k h l e a b d =
     omega (arith, rising-up (bins_between bins s t) (j - s) (k - s) (frame-rising bins starts f h l) (omega arith) (rw (length-take-le (t - s) (drop s bins) fit) (omega arith)), at_j, at-k)
 
 -- ---- sizes that code reads in other forms
-
--- a count that is one more than another
-pub one_more : (n m : ℕ) → n < m → eqb (m - n) 1 ≡ eqb m (n + 1)
-one_more n m h = go (eqb m (n + 1)) refl
-  where
-    go : (t : Bool) → eqb m (n + 1) ≡ t → eqb (m - n) 1 ≡ t
-    go true t = eq-eqb (m - n) 1 (omega (arith, eqb-true m (n + 1) t))
-    go false t = ne_eqb (m - n) 1 (λ e. eqb-false m (n + 1) t (omega arith))
 
 -- a count above a limit, with one beside the counted
 pub above-one : (limit n : ℕ) → ltb (limit + 1) n ≡ ltb limit (n - 1)

@@ -1,5 +1,5 @@
 -- A frame index as it is lent: the points of all frames of a run, frame after frame, within a frame by bin.
-use Rattle.std.specs.Prelude.{Bool, true, false, ◌&&◌, ◌||◌, List, [], ◌∷◌, ℕ, ◌+◌, ◌-◌, leb, ltb, eqb, length, take, drop, Float}
+use Rattle.std.specs.Prelude.{◌≡◌, Bool, true, false, ◌&&◌, ◌||◌, List, [], ◌∷◌, ℕ, ◌+◌, ◌-◌, leb, ltb, eqb, length, take, drop, Float}
 use Rattle.limits.specs.Limits.{max_frames, max_points, max_scan, last_row}
 use Rattle.numeric.specs.Numeric.{all_in_range}
 use Rattle.params.specs.Params.{all_up_to, rising}
@@ -14,6 +14,9 @@ pub record Index : Type 0 where
   pub offsets : List ℕ
   pub scans : List ℕ
   pub readings : List Float
+
+abbrev pub index_of : List ℕ → List ℕ → List ℕ → List ℕ → List Float → Index
+index_of starts bins offsets scans readings = record { starts = starts; bins = bins; offsets = offsets; scans = scans; readings = readings }
 
 abbrev pub frames : Index → ℕ
 frames ix = length ix.starts - 1
@@ -63,6 +66,12 @@ sound_lists starts bins offsets points =
 
 abbrev pub sound_index : Index → Bool
 sound_index ix = sound_lists ix.starts ix.bins ix.offsets (points ix)
+
+-- an index that numbers 1 and 23 do not refuse
+pub record Checked (ix : Index) : Type 0 where
+  pub sound : sound_index ix ≡ true
+  pub offsets : length ix.offsets ≡ length ix.bins + 1
+  pub readings : length ix.readings ≡ length ix.scans
 
 -- ---- what the numbers go by
 

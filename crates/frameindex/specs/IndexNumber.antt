@@ -1,10 +1,10 @@
 -- Which number of document 01 a call on an index is answered with, 0 for none, and what is left of it.
-use Rattle.std.specs.Prelude.{◌≡◌, Bool, true, cond, not, ◌&&◌, List, [], ◌∷◌, ◌++◌, ℕ, eqb, length, drop, Float}
+use Rattle.std.specs.Prelude.{◌≡◌, Bool, true, false, cond, not, ◌&&◌, List, [], ◌∷◌, ◌++◌, ℕ, ◌+◌, eqb, ltb, length, drop, Float}
 use Rattle.refusal.specs.Refusal.{Check, first_of}
 use Rattle.refusal.specs.Answers.{Says, answer_by}
 use Rattle.frameindex.specs.declared.inner.Seen.{Seen}
 use Rattle.frameindex.specs.declared.numbers.Further.{Further}
-use Rattle.frameindex.specs.FrameIndex.{Index, seen_in}
+use Rattle.frameindex.specs.FrameIndex.{Index, too_large, sound_index, seen_in}
 
 -- The checks of a call on an index, the lowest number first: what reading the index shows, and what the call is asked besides.
 abbrev pub index_checks : Seen → Further → List Check
@@ -24,6 +24,22 @@ index_checks s f =
 -- the number of a call, for readings up to a limit
 unfoldable pub index_number : ℕ → Index → Further → ℕ
 index_number limit ix f = first_of (index_checks (seen_in limit ix) f)
+
+-- what holds of a call that no number refuses
+pub record Accepted (ix : Index) (f : Further) : Type 0 where
+  pub some : ltb 0 (length ix.starts) ≡ true
+  pub offsets : length ix.offsets ≡ length ix.bins + 1
+  pub readings : length ix.scans ≡ length ix.readings
+  pub small : too_large ix ≡ false
+  pub sound : sound_index ix ≡ true
+  pub lengths : f.lengths ≡ true
+  pub sizes : f.sizes ≡ true
+  pub values : f.values ≡ true
+  pub axes : f.axes ≡ true
+  pub records : f.records ≡ true
+  pub room : f.room ≡ true
+  pub scratch : f.scratch ≡ true
+  pub scale : f.scale ≡ true
 
 -- what is asked besides where there is no list besides the index, and no scratch: parameters, TOF values and scans, room, a scale
 abbrev pub plainly : Bool → Bool → Bool → Bool → Further

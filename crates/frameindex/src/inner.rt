@@ -14,16 +14,6 @@ pub struct Seen {
     pub sound: bool,
 }
 
-// How many frames there are, by the count of starts.
-pub fn frames(starts: usize) -> usize
-    ensures { result ≡ starts - 1 }
-{
-    if starts == 0 {
-        return 0;
-    }
-    starts - 1
-}
-
 // Whether numbers start at 0, never fall and end at n.
 fn climbs_to(n: usize, list: &[u32]) -> bool
     ensures { result ≡ climbs_to n list.now }
@@ -33,7 +23,7 @@ fn climbs_to(n: usize, list: &[u32]) -> bool
     }
     let mut all = list[0] == 0;
     for i in 1..list.len() {
-        all = all & (list[i - 1] <= list[i]);
+        all &= list[i - 1] <= list[i];
     }
     all & (list[list.len() - 1] as usize == n)
 }
@@ -52,12 +42,8 @@ fn frames_rise(bins: &[u32], starts: &[u32]) -> bool
     ensures { result ≡ frames_rise bins.now starts.now }
 {
     let mut all = true;
-    let mut f = 1usize;
-    while f < starts.len() {
-        let s = starts[f - 1] as usize;
-        let t = starts[f] as usize;
-        all = all & rises(bins, s, t);
-        f += 1;
+    for f in 1..starts.len() {
+        all &= rises(bins, starts[f - 1] as usize, starts[f] as usize);
     }
     all
 }
@@ -70,35 +56,4 @@ pub fn is_sound(starts: &[u32], bins: &[u32], offsets: &[u32], points: usize) ->
         return params::inner::all_up_to(limits::LAST_ROW, bins) & frames_rise(bins, starts);
     }
     false
-}
-
-fn one_more(n: usize, m: usize) -> bool
-    ensures { result ≡ eqb m (n + 1) }
-{
-    if n < m { m - n == 1 } else { false }
-}
-
-// Reads an index; `limit` is the highest pattern of a reading.
-pub fn see(
-    limit: u32,
-    starts: &[u32],
-    bins: &[u32],
-    offsets: &[u32],
-    scans: &[u32],
-    readings: &[f32],
-) -> Seen
-    ensures { result ≡ seen_in limit (record { starts = starts.now; bins = bins.now; offsets = offsets.now; scans = scans.now; readings = readings.now }) }
-{
-    let frames = starts.len();
-    Seen {
-        agreeing: (0 < frames)
-            & one_more(bins.len(), offsets.len())
-            & (scans.len() == readings.len()),
-        too_large: (frames > limits::MAX_FRAMES + 1)
-            | (scans.len() > limits::MAX_POINTS)
-            | (bins.len() > limits::MAX_POINTS),
-        readings: numeric::inner::all_in_range(readings, limit),
-        scans: params::inner::all_up_to(limits::MAX_SCAN, scans),
-        sound: is_sound(starts, bins, offsets, scans.len()),
-    }
 }

@@ -1,9 +1,11 @@
 // The number of a call on an index, by what reading the index shows and by what else the call is asked.
 ghost use Rattle.std.specs.Prelude.{◌≡◌};
+ghost use Rattle.refusal.specs.Numbered.{number_in};
 ghost use Rattle.refusal.specs.Refusal.{first_of};
 ghost use Rattle.frameindex.specs.IndexNumber.{index_checks, plainly};
 
 use super::inner::Seen;
+use refusal::Refusal;
 
 // What a call is asked besides its index, each true where it is met: lengths that agree (number 1), sizes within their limits (2),
 // parameters (4), TOF values and scans (5) and records (9) in range, room for what is written (20), scratch (21), and a scale whose
@@ -36,39 +38,40 @@ pub fn plain(values: bool, axes: bool, room: bool, scale: bool) -> Further
     }
 }
 
-// The lowest number that applies, or 0.
-pub fn number(s: Seen, f: Further) -> u32
-    ensures { result ≡ first_of (index_checks s f) }
+// Refuses with the lowest number that applies.
+#[tactic(auto, unfolding(refusal::specs::Refusal::first_of))]
+pub fn check(s: Seen, f: Further) -> Result<(), Refusal>
+    ensures { number_in result ≡ first_of (index_checks s f) }
 {
     if !(s.agreeing & f.lengths) {
-        return 1;
+        return Err(Refusal::Lengths);
     }
     if !(!s.too_large & f.sizes) {
-        return 2;
+        return Err(Refusal::Size);
     }
     if !s.readings {
-        return 3;
+        return Err(Refusal::Reading);
     }
     if !f.values {
-        return 4;
+        return Err(Refusal::Value);
     }
     if !(s.scans & f.axes) {
-        return 5;
+        return Err(Refusal::Axis);
     }
     if !f.records {
-        return 9;
+        return Err(Refusal::Record);
     }
     if !f.room {
-        return 20;
+        return Err(Refusal::Room);
     }
     if !f.scratch {
-        return 21;
+        return Err(Refusal::Scratch);
     }
     if !f.scale {
-        return 22;
+        return Err(Refusal::Scale);
     }
     if !s.sound {
-        return 23;
+        return Err(Refusal::Index);
     }
-    0
+    Ok(())
 }

@@ -1,4 +1,3 @@
 -- Laws of the words that C entries answer.
-pub mod Words
 pub mod ViewWords
 pub mod SumWords

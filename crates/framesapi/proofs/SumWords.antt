@@ -21,14 +21,16 @@ use Rattle.scansums.proofs.Laws.{sums-length as scan-sums}
 use Rattle.marginals.specs.declared.inner.Block.{Block}
 use Rattle.marginals.specs.Marginals.{window_of, frames_in, rt_marginal, im_marginal, marginal_asks}
 use Rattle.traces.specs.Traces.{trace_of}
-use Rattle.manytraces.specs.declared.TracesAnswer.{TracesAnswer}
-use Rattle.manytraces.specs.ManyTraces.{Call, peaks_in, many_asks, traces_says, number_for}
+use Rattle.std.specs.Prelude.{Result}
+use Rattle.refusal.specs.declared.Refusal.{Refusal}
+use Rattle.refusal.specs.Numbered.{says}
+use Rattle.refusal.proofs.NumberedLaws.{which}
+use Rattle.manytraces.specs.ManyTraces.{Call, peaks_in, many_asks, number_for}
 use Rattle.manytraces.specs.ManyTraces as many
-use Rattle.manytraces.proofs.ManyTracesLaws.{traces-which}
-use Rattle.framesapi.specs.Word.{word_of, itself}
+use Rattle.entryword.specs.Word.{word_of, itself}
 use Rattle.framesapi.specs.Sums.{Summed, SumsTold}
 use Rattle.framesapi.specs.ManyTraces.{Answered, ManyTold}
-use Rattle.framesapi.proofs.Words.{below, first_below, word_fits, word-told}
+use Rattle.entryword.proofs.Words.{below, first_below, word_fits, word-told}
 
 module _ (ix : Index) (asks : Further) where
   number_small : index_number max_reading ix asks < 64
@@ -73,12 +75,12 @@ asks c out windows = many_asks c (record { out = length out; windows = length wi
 pub many-told : ManyTold
 many-told c out windows = word-told itself (number_for c out windows) (peaks_in c) (number_small c.index (asks c out windows))
 
-module _ {c : Call} {out₀ : List Float} {windows₀ : List ℕ} {out : List Float} {windows : List ℕ} {r : TracesAnswer} (a : many.Answered c out₀ windows₀ out windows r) where
-  pub many-fits : word_of itself (traces_says r) < 2 ^ 64
+module _ {c : Call} {out₀ : List Float} {windows₀ : List ℕ} {out : List Float} {windows : List ℕ} {r : Result ℕ Refusal} (a : many.Answered c out₀ windows₀ out windows r) where
+  pub many-fits : word_of itself (says r) < 2 ^ 64
   many-fits =
       rw a.answered
       (word_fits itself (number_for c out₀ windows₀) (peaks_in c) (number_small c.index (asks c out₀ windows₀))
       (λ z. omega (arith, leb-true (peaks_in c) max_list (accepted max_reading c.index (asks c out₀ windows₀) z).sizes)))
 
-  pub many-word : (w : ℕ) → w ≡ word_of itself (traces_says r) → Answered c out₀ windows₀ out windows w
-  many-word w e = record { word = e ∙ ap (word_of itself) a.answered; lists = subst (λ (x : TracesAnswer). many.Answered c out₀ windows₀ out windows x) (traces-which r _ _ a.answered) a }
+  pub many-word : (w : ℕ) → w ≡ word_of itself (says r) → Answered c out₀ windows₀ out windows w
+  many-word w e = record { word = e ∙ ap (word_of itself) a.answered; lists = subst (λ (x : Result ℕ Refusal). many.Answered c out₀ windows₀ out windows x) (which ℕ r _ _ a.answered) a }

@@ -6,15 +6,17 @@ use lib.ListN.{length}
 use Rattle.limits.specs.Limits.{max_reading}
 use Rattle.framebins.specs.FrameBins.{kept, view_bins, sorted_bins}
 use Rattle.framebins.proofs.Laws.{distinct-le, kept-le, bins-length}
-use Rattle.frameview.specs.declared.ViewAnswer.{ViewAnswer}
-use Rattle.frameview.specs.ViewNumber.{view_says}
+use Rattle.std.specs.Prelude.{Result}
+use Rattle.refusal.specs.declared.Refusal.{Refusal}
+use Rattle.refusal.specs.Numbered.{says}
+use Rattle.refusal.proofs.NumberedLaws.{which}
+use Rattle.framebins.specs.declared.inner.Counts.{Counts}
 use Rattle.frameview.specs.Answer.{Frame, Lent, room_of, view_checks, view_number, number_for, bins_of, counts_of}
 use Rattle.frameview.specs.Answer as view
 use Rattle.frameview.proofs.Laws.{accepted}
-use Rattle.frameview.proofs.ViewLaws.{view-which}
-use Rattle.framesapi.specs.Word.{word_of}
+use Rattle.entryword.specs.Word.{word_of}
 use Rattle.framesapi.specs.View.{bins_in, Answered, ViewTold}
-use Rattle.framesapi.proofs.Words.{below, first_below, word_fits, word-told}
+use Rattle.entryword.proofs.Words.{below, first_below, word_fits, word-told}
 
 -- as many bins as points at most
 few-bins : (f : Frame) → length (view_bins (bins_of f)) ≤ length f.tofs
@@ -28,9 +30,9 @@ number_small f was = first_below 64 (view_checks max_reading f (room_of was)) re
 pub view-told : ViewTold
 view-told f was = word-told bins_in (number_for f was) (counts_of f) (number_small f was)
 
-module _ {f : Frame} {was is : Lent} {r : ViewAnswer} (a : view.Answered f was is r) where
-  pub view-fits : word_of bins_in (view_says r) < 2 ^ 64
+module _ {f : Frame} {was is : Lent} {r : Result Counts Refusal} (a : view.Answered f was is r) where
+  pub view-fits : word_of bins_in (says r) < 2 ^ 64
   view-fits = rw a.answered (word_fits bins_in (number_for f was) (counts_of f) (number_small f was) (λ z. omega (arith, few-bins f, (accepted f was z).few)))
 
-  pub view-word : (w : ℕ) → w ≡ word_of bins_in (view_says r) → Answered f was is w
-  view-word w e = record { word = e ∙ ap (word_of bins_in) a.answered; lists = subst (λ (x : ViewAnswer). view.Answered f was is x) (view-which r _ _ _ a.answered) a }
+  pub view-word : (w : ℕ) → w ≡ word_of bins_in (says r) → Answered f was is w
+  view-word w e = record { word = e ∙ ap (word_of bins_in) a.answered; lists = subst (λ (x : Result Counts Refusal). view.Answered f was is x) (which Counts r _ _ a.answered) a }

@@ -1,5 +1,4 @@
 -- The definitions that the contracts of `framesapi` cite.
-pub mod Word
 pub mod Scale
 pub mod View
 pub mod Sums

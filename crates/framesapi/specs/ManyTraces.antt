@@ -1,15 +1,15 @@
 -- What the C entry of the traces of a list of peaks answers: 64 times the count of peaks, or the number.
-use Rattle.std.specs.Prelude.{◌≡◌, cond, List, ℕ, eqb, Float}
+use Rattle.std.specs.Prelude.{◌≡◌, cond, List, ℕ, eqb, Float, Result, Ok, Err}
+use Rattle.refusal.specs.declared.Refusal.{Refusal}
 use Rattle.refusal.specs.Answers.{answer_by}
-use Rattle.manytraces.specs.declared.TracesAnswer.{TracesAnswer}
-use Rattle.manytraces.specs.declared.TracesAnswer.TheVariants.{Traces, Refused}
+use Rattle.refusal.specs.NumberedLaws.{refusal_of}
 use Rattle.manytraces.specs.ManyTraces.{Call, peaks_in, number_for}
 use Rattle.manytraces.specs.ManyTraces as many
-use Rattle.framesapi.specs.Word.{word_of, itself, Told}
+use Rattle.entryword.specs.Word.{word_of, itself, Told}
 
 -- the answer of `rt_traces_for_im_peaks_by_bounds`: the count of peaks, or the number
-abbrev pub answer_to : Call → List Float → List ℕ → TracesAnswer
-answer_to c out windows = cond (eqb (number_for c out windows) 0) (Traces (peaks_in c)) (Refused (number_for c out windows))
+abbrev pub answer_to : Call → List Float → List ℕ → Result ℕ Refusal
+answer_to c out windows = cond (eqb (number_for c out windows) 0) (Ok (peaks_in c)) (Err (refusal_of (number_for c out windows)))
 
 abbrev pub many_word : Call → List Float → List ℕ → ℕ
 many_word c out windows = word_of itself (answer_by (number_for c out windows) (peaks_in c))

@@ -5,7 +5,7 @@ use Rattle.limits.specs.Limits.{max_reading}
 use Rattle.frameindex.specs.declared.numbers.Further.{Further}
 use Rattle.frameindex.specs.FrameIndex.{Index}
 use Rattle.frameindex.specs.IndexNumber.{index_number}
-use Rattle.framesapi.specs.Word.{word_of, itself, Told}
+use Rattle.entryword.specs.Word.{word_of, itself, Told}
 
 -- the word of a call on an index, with readings to 2^32
 abbrev pub sums_word : Index → Further → List Float → ℕ

@@ -3,7 +3,7 @@ use Rattle.std.specs.Prelude.{List, ℕ, length, Float}
 use Rattle.tof.specs.declared.TofScale.{TofScale}
 use Rattle.frameindex.specs.FrameIndex.{Index}
 use Rattle.windows.specs.Windows.{padded_bins}
-use Rattle.traces.specs.declared.inner.Bounds.{Bounds}
+use Rattle.windows.specs.declared.inner.Bounds.{Bounds}
 use Rattle.traces.specs.Traces.{trace_of, row_asks, bounds_asks, window_by}
 use Rattle.framesapi.specs.Sums.{Summed}
 

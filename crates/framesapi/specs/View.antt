@@ -1,19 +1,20 @@
 -- What the C entry of a frame's part of an index answers: 64 times the count of bins, or the number.
-use Rattle.std.specs.Prelude.{◌≡◌, cond, ℕ, eqb}
+use Rattle.std.specs.Prelude.{◌≡◌, cond, ℕ, eqb, Result, Ok, Err}
+use Rattle.refusal.specs.declared.Refusal.{Refusal}
 use Rattle.refusal.specs.Answers.{answer_by}
-use Rattle.frameview.specs.declared.ViewAnswer.{ViewAnswer}
-use Rattle.frameview.specs.declared.ViewAnswer.TheVariants.{Built, Refused}
+use Rattle.refusal.specs.NumberedLaws.{refusal_of}
+use Rattle.framebins.specs.declared.inner.Counts.{Counts}
 use Rattle.frameview.specs.Answer.{Frame, Lent, number_for, counts_of}
 use Rattle.frameview.specs.Answer as view
-use Rattle.framesapi.specs.Word.{word_of, Told}
+use Rattle.entryword.specs.Word.{word_of, Told}
 
 -- the answer of `build_frame_bin_view`: the counts of bins and of points, or the number
-abbrev pub answer_to : Frame → Lent → ViewAnswer
-answer_to f lent = cond (eqb (number_for f lent) 0) (Built (counts_of f).0 (counts_of f).1) (Refused (number_for f lent))
+abbrev pub answer_to : Frame → Lent → Result Counts Refusal
+answer_to f lent = cond (eqb (number_for f lent) 0) (Ok (counts_of f)) (Err (refusal_of (number_for f lent)))
 
 -- Of the two counts the word has that of the bins. That of the points is told by the last offset, which is `base` and that count.
-abbrev pub bins_in : ℕ × ℕ → ℕ
-bins_in counts = counts.0
+abbrev pub bins_in : Counts → ℕ
+bins_in counts = counts.bins
 
 -- the word of a frame
 abbrev pub view_word : Frame → Lent → ℕ
@@ -26,4 +27,4 @@ pub record Answered (f : Frame) (was is : Lent) (r : ℕ) : Type 0 where
 
 -- the word tells the number and the count of bins: `view-told` in proofs/ViewWords.antt
 abbrev pub ViewTold : Type 0
-ViewTold = (f : Frame) (was : Lent) → Told (number_for f was) (counts_of f).0 (view_word f was)
+ViewTold = (f : Frame) (was : Lent) → Told (number_for f was) (counts_of f).bins (view_word f was)

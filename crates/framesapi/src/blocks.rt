@@ -1,21 +1,11 @@
 // Marginals as C functions on numbers and lists.
-ghost use Rattle.std.specs.Prelude.{◌≡◌, ◌<◌, ◌^◌};
-ghost use Rattle.framesums.specs.Steps.{index_of};
-ghost use Rattle.marginals.specs.Marginals.{block_of, marginal_says};
-ghost use Rattle.framesapi.specs.Word.{word_of, itself};
+ghost use Rattle.frameindex.specs.FrameIndex.{index_of};
+ghost use Rattle.marginals.specs.Marginals.{block_of};
 ghost use Rattle.framesapi.specs.Marginals.{RtSummed, ImSummed};
 
-use marginals::MarginalAnswer;
-
-fn word_of(answer: MarginalAnswer) -> u64
-    requires { word_of itself (marginal_says answer) < 2 ^ 64 }
-    ensures { result ≡ word_of itself (marginal_says answer) }
-{
-    match answer {
-        MarginalAnswer::Filled(n) => (n as u64) * 64,
-        MarginalAnswer::Refused(no) => no as u64,
-    }
-}
+use entryword::word_of;
+use frameindex::FrameIndex;
+use marginals::inner::Block;
 
 // Puts the sums of the frames rt_lo to rt_hi to the front of `out` and answers 64 times their count, or answers with a number and leaves
 // `out` as it is.
@@ -37,9 +27,22 @@ pub extern "C" fn rubzolena_build_rt_marginal(
     ensures { RtSummed (index_of starts.now bins.now offsets.now scans.now readings.now)
         (block_of rt_lo rt_hi bin_lo bin_hi im_lo im_hi) out.old out.new result }
 {
-    let answer = marginals::build_rt_marginal(
-        starts, bins, offsets, scans, readings, rt_lo, rt_hi, bin_lo, bin_hi, im_lo, im_hi, out,
-    );
+    let ix = FrameIndex {
+        starts,
+        bins,
+        offsets,
+        scans,
+        readings,
+    };
+    let b = Block {
+        rt_lo,
+        rt_hi,
+        bin_lo,
+        bin_hi,
+        im_lo,
+        im_hi,
+    };
+    let answer = marginals::build_rt_marginal(&ix, b, out);
     word_of(answer)
 }
 
@@ -62,8 +65,21 @@ pub extern "C" fn rubzolena_build_im_marginal(
     ensures { ImSummed (index_of starts.now bins.now offsets.now scans.now readings.now)
         (block_of rt_lo rt_hi bin_lo bin_hi im_lo im_hi) out.old out.new result }
 {
-    let answer = marginals::build_im_marginal(
-        starts, bins, offsets, scans, readings, rt_lo, rt_hi, bin_lo, bin_hi, im_lo, im_hi, out,
-    );
+    let ix = FrameIndex {
+        starts,
+        bins,
+        offsets,
+        scans,
+        readings,
+    };
+    let b = Block {
+        rt_lo,
+        rt_hi,
+        bin_lo,
+        bin_hi,
+        im_lo,
+        im_hi,
+    };
+    let answer = marginals::build_im_marginal(&ix, b, out);
     word_of(answer)
 }

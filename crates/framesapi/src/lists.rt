@@ -1,23 +1,12 @@
 // The retention traces of a list of peaks as a C function on numbers and lists.
-ghost use Rattle.std.specs.Prelude.{◌≡◌, ◌<◌, ◌^◌};
-ghost use Rattle.framesums.specs.Steps.{index_of};
-ghost use Rattle.manytraces.specs.ManyTraces.{call_of, traces_says};
-ghost use Rattle.framesapi.specs.Word.{word_of, itself};
+ghost use Rattle.frameindex.specs.FrameIndex.{index_of};
+ghost use Rattle.manytraces.specs.ManyTraces.{call_of};
 ghost use Rattle.framesapi.specs.Scale.{scale_of};
 ghost use Rattle.framesapi.specs.ManyTraces.{Answered};
 
-use manytraces::TracesAnswer;
+use entryword::word_of;
+use frameindex::FrameIndex;
 use tof::TofScale;
-
-fn word_of(answer: TracesAnswer) -> u64
-    requires { word_of itself (traces_says answer) < 2 ^ 64 }
-    ensures { result ≡ word_of itself (traces_says answer) }
-{
-    match answer {
-        TracesAnswer::Traces(n) => (n as u64) * 64,
-        TracesAnswer::Refused(no) => no as u64,
-    }
-}
 
 // Puts the traces of all peaks of a list one after another to the front of `out` and answers 64 times their count, or answers with a
 // number and leaves both lent lists as they are.
@@ -47,12 +36,15 @@ pub extern "C" fn rubzolena_rt_traces_for_im_peaks_by_bounds(
         tof_step,
         num_bins,
     };
-    let answer = manytraces::rt_traces_for_im_peaks_by_bounds(
+    let ix = FrameIndex {
         starts,
         bins,
         offsets,
         scans,
         readings,
+    };
+    let answer = manytraces::rt_traces_for_im_peaks_by_bounds(
+        &ix,
         scale,
         list,
         extra_bins_pad,

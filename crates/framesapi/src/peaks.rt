@@ -1,23 +1,13 @@
 // Retention traces as C functions on numbers and lists.
-ghost use Rattle.std.specs.Prelude.{◌≡◌, ◌<◌, ◌^◌};
-ghost use Rattle.framesums.specs.Steps.{index_of};
-ghost use Rattle.traces.specs.Traces.{trace_says, bounds_of};
-ghost use Rattle.framesapi.specs.Word.{word_of, itself};
+ghost use Rattle.frameindex.specs.FrameIndex.{index_of};
+ghost use Rattle.traces.specs.Traces.{bounds_of};
 ghost use Rattle.framesapi.specs.Scale.{scale_of};
 ghost use Rattle.framesapi.specs.Traces.{RowSummed, BoundsSummed};
 
+use entryword::word_of;
+use frameindex::FrameIndex;
 use tof::TofScale;
-use traces::TraceAnswer;
-
-fn word_of(answer: TraceAnswer) -> u64
-    requires { word_of itself (trace_says answer) < 2 ^ 64 }
-    ensures { result ≡ word_of itself (trace_says answer) }
-{
-    match answer {
-        TraceAnswer::Trace(n) => (n as u64) * 64,
-        TraceAnswer::Refused(no) => no as u64,
-    }
-}
+use windows::inner::Bounds;
 
 // Puts a sum for each frame to the front of `out`, around a TOF row, and answers 64 times their count, or answers with a number and
 // leaves `out` as it is.
@@ -37,9 +27,14 @@ pub extern "C" fn rubzolena_rt_trace_for_im_peak(
     ensures { RowSummed (index_of starts.now bins.now offsets.now scans.now readings.now)
         tof_row bin_pad scan_lo scan_hi out.old out.new result }
 {
-    let answer = traces::rt_trace_for_im_peak(
-        starts, bins, offsets, scans, readings, tof_row, bin_pad, scan_lo, scan_hi, out,
-    );
+    let ix = FrameIndex {
+        starts,
+        bins,
+        offsets,
+        scans,
+        readings,
+    };
+    let answer = traces::rt_trace_for_im_peak(&ix, tof_row, bin_pad, scan_lo, scan_hi, out);
     word_of(answer)
 }
 
@@ -71,19 +66,20 @@ pub extern "C" fn rubzolena_rt_trace_for_im_peak_by_bounds(
         tof_step,
         num_bins,
     };
-    let answer = traces::rt_trace_for_im_peak_by_bounds(
+    let ix = FrameIndex {
         starts,
         bins,
         offsets,
         scans,
         readings,
-        scale,
+    };
+    let b = Bounds {
         tof_lo,
         tof_hi,
-        extra_bins_pad,
+        pad: extra_bins_pad,
         scan_lo,
         scan_hi,
-        out,
-    );
+    };
+    let answer = traces::rt_trace_for_im_peak_by_bounds(&ix, scale, b, out);
     word_of(answer)
 }

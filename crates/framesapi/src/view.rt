@@ -1,22 +1,22 @@
 // The points of a frame as its part of an index, as a C function on numbers and lists.
-ghost use Rattle.std.specs.Prelude.{◌≡◌, ◌<◌, ◌^◌};
+ghost use Rattle.std.specs.Prelude.{◌≡◌};
+ghost use Rattle.refusal.specs.Numbered.{says};
+ghost use Rattle.entryword.specs.Word.{word_of, itself};
 ghost use Rattle.frameview.specs.Answer.{frame_of, lent_of};
 ghost use Rattle.framesapi.specs.Scale.{scale_of};
-ghost use Rattle.frameview.specs.ViewNumber.{view_says};
-ghost use Rattle.framesapi.specs.Word.{word_of};
 ghost use Rattle.framesapi.specs.View.{bins_in, Answered};
 
-use frameview::ViewAnswer;
+use entryword::word_of;
+use framebins::inner::Counts;
+use refusal::Refusal;
 use tof::TofScale;
 
-fn word_of(answer: ViewAnswer) -> u64
-    requires { word_of bins_in (view_says answer) < 2 ^ 64 }
-    ensures { result ≡ word_of bins_in (view_says answer) }
+// The count of bins alone.
+#[tactic(auto, unfolding(entryword::specs::Word::as_word))]
+fn bins_of(answer: Result<Counts, Refusal>) -> Result<usize, Refusal>
+    ensures { word_of itself (says result) ≡ word_of bins_in (says answer) }
 {
-    match answer {
-        ViewAnswer::Built(bins, _) => (bins as u64) * 64,
-        ViewAnswer::Refused(no) => no as u64,
-    }
+    Ok(answer?.bins)
 }
 
 // Puts the points of a frame that have a bin, sorted by bin, to the front of four lists and answers 64 times the count of bins; or
@@ -67,5 +67,5 @@ pub extern "C" fn rubzolena_build_frame_bin_view(
         order,
         spare,
     );
-    word_of(answer)
+    word_of(bins_of(answer))
 }

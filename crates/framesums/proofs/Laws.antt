@@ -15,9 +15,7 @@ use Rattle.numeric.specs.Arith.{◌⊕◌, 𝟎, at}
 use Rattle.digits.specs.Sorted.{up_to}
 use Rattle.digits.proofs.UpTo.{upto-length}
 use Rattle.frameindex.specs.FrameIndex.{Index, climbs_to, points}
-use Rattle.frameindex.specs.declared.numbers.Further.{Further}
 use Rattle.frameindex.proofs.Laws.{climbs-up, climbs-most, frame-up, sound-parts}
-use Rattle.frameindex.proofs.IndexNumberLaws.{Accepted}
 use Rattle.framesums.specs.declared.inner.Window.{Window}
 use Rattle.framesums.specs.Sums.{in_bins, in_scans, add_points, add_bins, add_frame, frame_sums}
 use Rattle.framesums.specs.Steps.{Checked, Rising, FirstAt, any_in, with_scans, PointsOf}
@@ -296,8 +294,6 @@ module _ (bins : List ℕ) (from to x : ℕ) (rise : Rising bins from to) where
       go false t = let n = eqb-false j i t in l j a (omega arith)
 
 -- an index that no number of a call refuses
-pub checked : (ix : Index) (f : Further) → Accepted ix f → Checked ix
-checked ix f a = record { sound = a.sound; offsets = a.offsets; readings = sym a.readings }
 
 -- ---- a frame of a checked index
 module _ (ix : Index) (ck : Checked ix) (f : ℕ) (l : f + 1 < length ix.starts) where

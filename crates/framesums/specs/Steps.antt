@@ -1,18 +1,10 @@
 -- What the steps of a sum ask of an index and find in it.
-use Rattle.std.specs.Prelude.{◌≡◌, Bool, true, false, ◌||◌, List, ℕ, zero, suc, ◌+◌, ◌-◌, ◌≤◌, ◌<◌, length, get_or, Float}
-use Rattle.frameindex.specs.FrameIndex.{Index, sound_index, points}
+use Rattle.std.specs.Prelude.{◌≡◌, Bool, false, ◌||◌, List, ℕ, zero, suc, ◌+◌, ◌-◌, ◌≤◌, ◌<◌, get_or, Float}
+pub use Rattle.frameindex.specs.FrameIndex.{index_of, Checked}
+use Rattle.frameindex.specs.FrameIndex.{Index, points}
 use Rattle.framesums.specs.declared.inner.Window.{Window}
 use Rattle.framesums.specs.declared.inner.Span.{Span}
 use Rattle.framesums.specs.Sums.{in_scans, add_points, add_frame}
-
-abbrev pub index_of : List ℕ → List ℕ → List ℕ → List ℕ → List Float → Index
-index_of starts bins offsets scans readings = record { starts = starts; bins = bins; offsets = offsets; scans = scans; readings = readings }
-
--- an index that numbers 1 and 23 do not refuse
-pub record Checked (ix : Index) : Type 0 where
-  pub sound : sound_index ix ≡ true
-  pub offsets : length ix.offsets ≡ length ix.bins + 1
-  pub readings : length ix.readings ≡ length ix.scans
 
 -- bins from a place up to another rise
 abbrev pub Rising : List ℕ → ℕ → ℕ → Type 0

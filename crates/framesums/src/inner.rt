@@ -1,7 +1,10 @@
 // Sums over the points of a checked index: those of a frame whose bins lie in a window stand side by side.
-ghost use Rattle.std.specs.Prelude.{◌≡◌, cond, ◌++◌, ℕ, ◌≤◌, ◌<◌, ◌+◌, ◌-◌, ltb, length, get_or, drop};
-ghost use Rattle.framesums.specs.Sums.{add_points, add_frame, frame_sums};
-ghost use Rattle.framesums.specs.Steps.{index_of, Checked, Rising, FirstAt, any_in, PointsOf};
+ghost use Rattle.std.specs.Prelude.{◌≡◌, List, cond, ◌++◌, ℕ, ◌≤◌, ◌<◌, ◌+◌, ◌-◌, ltb, length, get_or, drop};
+ghost use Rattle.framesums.specs.Sums.{in_scans, add_points, add_frame, frame_sums};
+ghost use Rattle.frameindex.specs.FrameIndex.{index_of};
+ghost use Rattle.framesums.specs.Steps.{Rising, FirstAt, any_in, PointsOf};
+
+use frameindex::CheckedIndex;
 
 // Bins and scans, ends included.
 #[derive(Clone, Copy)]
@@ -10,6 +13,14 @@ pub struct Window {
     pub bin_hi: u32,
     pub scan_lo: u32,
     pub scan_hi: u32,
+}
+
+impl Window {
+    pub fn has_scan(self, s: u32) -> bool
+        ensures { result ≡ in_scans self s }
+    {
+        (self.scan_lo <= s) & (s <= self.scan_hi)
+    }
 }
 
 // Points from a place on, before another.
@@ -26,7 +37,7 @@ pub fn below(a: u32, b: u32) -> usize
     1 - ((a as u64 + 4294967296 - b as u64) / 4294967296) as usize
 }
 
-// The first place whose bin is x at least, by halving.
+// The first place whose bin is x at least, by halving; no `partition_point`, which branches on each bin that it reads.
 pub fn first_at(bins: &[u32], from: usize, to: usize, x: u32) -> usize
     requires { (from ≤ to) × (to ≤ length bins.now) × Rising bins.now from to }
     ensures { FirstAt bins.now from to x result }
@@ -49,68 +60,40 @@ pub fn first_above(bins: &[u32], from: usize, to: usize, x: u32) -> usize
     requires { (from ≤ to) × (to ≤ length bins.now) × Rising bins.now from to }
     ensures { FirstAt bins.now from to (x + 1) result }
 {
-    let mut i = from;
-    while i < to {
+    for i in from..to {
         if x < bins[i] {
             return i;
         }
-        i += 1;
     }
-    i
-}
-
-pub fn place_at(list: &[u32], i: usize) -> usize
-    requires { i < length list.now }
-    ensures { result ≡ get_or list.now i 0 }
-{
-    list[i] as usize
+    to
 }
 
 // The points of frame f whose bins lie in the window.
-pub fn span_of(
-    starts: &[u32],
-    bins: &[u32],
-    offsets: &[u32],
-    scans: &[u32],
-    readings: &[f32],
-    f: usize,
-    w: Window,
-) -> Span
-    requires { Checked (index_of starts.now bins.now offsets.now scans.now readings.now) × (f + 1 < length starts.now) }
-    ensures { PointsOf (index_of starts.now bins.now offsets.now scans.now readings.now) w f result }
+pub fn span_of(ix: &CheckedIndex, f: usize, w: Window) -> Span
+    requires { f + 1 < length ix.now.starts }
+    ensures { PointsOf ix.now w f result }
 {
-    let s = place_at(starts, f);
-    let t = place_at(starts, f + 1);
-    let i = first_at(bins, s, t, w.bin_lo);
-    let j = first_above(bins, i, t, w.bin_hi);
+    let starts = ix.starts;
+    let s = starts[f] as usize;
+    let t = starts[f + 1] as usize;
+    let i = first_at(ix.bins, s, t, w.bin_lo);
+    let j = first_above(ix.bins, i, t, w.bin_hi);
     Span {
-        from: place_at(offsets, i),
-        to: place_at(offsets, j),
+        from: ix.offsets[i] as usize,
+        to: ix.offsets[j] as usize,
     }
 }
 
-// Adds the readings of a span whose scans lie in the window, point by point.
-fn add_each(
-    starts: &[u32],
-    bins: &[u32],
-    offsets: &[u32],
-    scans: &[u32],
-    readings: &[f32],
-    p: Span,
-    w: Window,
-    so: f32,
-) -> f32
+// Adds the readings of a span whose scans lie in the window, point by point, whatever bins and frames they are of.
+fn add_each(scans: &[u32], readings: &[f32], p: Span, w: Window, so: f32) -> f32
     requires { (p.from ≤ p.to) × (p.to ≤ length scans.now) × (length readings.now ≡ length scans.now) }
-    ensures { result ≡ add_points (index_of starts.now bins.now offsets.now scans.now readings.now) w (p.to - p.from) p.from so }
+    ensures { (starts bins offsets : List ℕ) → result ≡ add_points (index_of starts bins offsets scans.now readings.now) w (p.to - p.from) p.from so }
 {
     let mut sum = so;
-    let mut j = p.from;
-    while j < p.to {
-        let s = scans[j];
-        if (w.scan_lo <= s) & (s <= w.scan_hi) {
-            sum = sum + readings[j];
+    for j in p.from..p.to {
+        if w.has_scan(scans[j]) {
+            sum += readings[j];
         }
-        j += 1;
     }
     sum
 }
@@ -122,76 +105,46 @@ fn any_of_eight(scans: &[u32], j: usize, w: Window) -> bool
 {
     let mut any = false;
     for i in 0..8 {
-        let s = scans[j + i];
-        any = any | ((w.scan_lo <= s) & (s <= w.scan_hi));
+        any |= w.has_scan(scans[j + i]);
     }
     any
 }
 
-// The same as point by point; eight points are passed over at a time where none of them lies in the window.
-pub fn add_points(
-    starts: &[u32],
-    bins: &[u32],
-    offsets: &[u32],
-    scans: &[u32],
-    readings: &[f32],
-    p: Span,
-    w: Window,
-    so: f32,
-) -> f32
+// The same as point by point; eight points are passed over at a time where none of them lies in the window. The loop goes by eights and
+// leaves its place to the rest, which a `for` over `step_by(8)` would reckon again.
+pub fn add_points(scans: &[u32], readings: &[f32], p: Span, w: Window, so: f32) -> f32
     requires { (p.from ≤ p.to) × (p.to ≤ length scans.now) × (length readings.now ≡ length scans.now) }
-    ensures { result ≡ add_points (index_of starts.now bins.now offsets.now scans.now readings.now) w (p.to - p.from) p.from so }
+    ensures { (starts bins offsets : List ℕ) → result ≡ add_points (index_of starts bins offsets scans.now readings.now) w (p.to - p.from) p.from so }
 {
     let mut sum = so;
     let mut j = p.from;
     while p.to - j >= 8 {
-        let any = any_of_eight(scans, j, w);
-        if any {
-            let q = Span { from: j, to: j + 8 };
-            sum = add_each(starts, bins, offsets, scans, readings, q, w, sum);
+        if any_of_eight(scans, j, w) {
+            let eight = Span { from: j, to: j + 8 };
+            sum = add_each(scans, readings, eight, w, sum);
         }
         j += 8;
     }
     let rest = Span { from: j, to: p.to };
-    add_each(starts, bins, offsets, scans, readings, rest, w, sum)
+    add_each(scans, readings, rest, w, sum)
 }
 
 // Adds the readings of frame f whose bin and scan lie in the window.
-pub fn add_frame(
-    starts: &[u32],
-    bins: &[u32],
-    offsets: &[u32],
-    scans: &[u32],
-    readings: &[f32],
-    f: usize,
-    w: Window,
-    so: f32,
-) -> f32
-    requires { Checked (index_of starts.now bins.now offsets.now scans.now readings.now) × (f + 1 < length starts.now) }
-    ensures { result ≡ add_frame (index_of starts.now bins.now offsets.now scans.now readings.now) w f so }
+pub fn add_frame(ix: &CheckedIndex, f: usize, w: Window, so: f32) -> f32
+    requires { f + 1 < length ix.now.starts }
+    ensures { result ≡ add_frame ix.now w f so }
 {
-    let p = span_of(starts, bins, offsets, scans, readings, f, w);
-    add_points(starts, bins, offsets, scans, readings, p, w, so)
+    let p = span_of(ix, f, w);
+    add_points(ix.scans, ix.readings, p, w, so)
 }
 
 // A sum for each of n frames.
-pub fn put_frame_sums(
-    starts: &[u32],
-    bins: &[u32],
-    offsets: &[u32],
-    scans: &[u32],
-    readings: &[f32],
-    from: usize,
-    n: usize,
-    w: Window,
-    out: &mut [f32],
-)
-    requires { Checked (index_of starts.now bins.now offsets.now scans.now readings.now) × (from + n < length starts.now) × (n ≤ length out.old) }
-    ensures { out.new ≡ frame_sums (index_of starts.now bins.now offsets.now scans.now readings.now) w from n ++ drop n out.old }
+pub fn put_frame_sums(ix: &CheckedIndex, from: usize, n: usize, w: Window, out: &mut [f32])
+    requires { (from + n < length ix.now.starts) × (n ≤ length out.old) }
+    ensures { out.new ≡ frame_sums ix.now w from n ++ drop n out.old }
 {
-    let mut k = 0usize;
-    while k < n {
-        out[k] = add_frame(starts, bins, offsets, scans, readings, from + k, w, 0.0);
-        k += 1;
+    prove!(from < ix.starts.len());
+    for k in 0..n {
+        out[k] = add_frame(ix, from + k, w, 0.0);
     }
 }

@@ -1,13 +1,16 @@
 -- Laws of the number and of the answer of a frame's points.
 use mathlib.Core.Path.{◌≡◌, refl, sym, ap, ◌∙◌}
-use mathlib.Core.Bool.{Bool, true, false, ◌||◌}
+use mathlib.Core.Bool.{false, ◌||◌}
 use Prim.Native.Nat.{ℕ, ◌+◌, ◌-◌, ◌≤◌, ◌<◌}
-use native.Mathlib.Omega.{arith}
-use borrow.Author.Tests.{ne_eqb, eqb-true, ltb-false, leb-false, lt-ltb, le-ltb, ltb-true, not-false}
+use borrow.Author.Tests.{ne_eqb, eqb-true, ltb-false, leb-false, not-false}
 use lib.Dec.{ltb, eqb}
 use lib.ListN.{length, drop}
 use Rattle.refusal.specs.Refusal.{first_of}
-use Rattle.refusal.proofs.AnswersLaws.{says-number, says-values}
+use Rattle.std.specs.Prelude.{Ok, Err}
+use Rattle.refusal.specs.declared.Refusal.{Refusal}
+use Rattle.refusal.specs.Numbered.{number_of}
+use Rattle.refusal.proofs.AnswersLaws.{says-values}
+use Rattle.refusal.proofs.NumberedLaws.{number_of-positive, says-err}
 use Rattle.refusal.proofs.Bools.{both, all3, neither}
 use Rattle.limits.specs.Limits.{max_reading, max_points, max_tof}
 use Rattle.params.specs.Params.{all_up_to}
@@ -16,23 +19,11 @@ use Rattle.framebins.specs.declared.inner.Counts.{Counts}
 use Rattle.framebins.specs.FrameBins.{view_scans, view_readings}
 use Rattle.framebins.specs.Steps.{Viewed}
 use Rattle.frameview.specs.declared.numbers.Seen.{Seen}
-use Rattle.frameview.specs.declared.ViewAnswer.TheVariants.{Built, Refused}
 use Rattle.frameview.specs.ViewNumber.{seen_in, checks_of}
 use Rattle.frameview.specs.Answer.{Frame, Lent, room_of, view_number, number_for, bins_of, counts_of, Answered}
 use Rattle.frameview.proofs.ViewLaws.{none-for}
 
 -- ---- the checks
-
--- a sum above the most, tested without a sum
-pub above-base : (base n : ℕ) → max_points < base → ltb max_points (base + n) ≡ true
-above-base base n h = lt-ltb max_points (base + n) (omega arith)
-
-pub above-rest : (base n : ℕ) → base ≤ max_points → ltb (max_points - base) n ≡ ltb max_points (base + n)
-above-rest base n h = go (ltb (max_points - base) n) refl
-  where
-    go : (t : Bool) → ltb (max_points - base) n ≡ t → t ≡ ltb max_points (base + n)
-    go true e = sym (lt-ltb max_points (base + n) (omega (arith, ltb-true (max_points - base) n e)))
-    go false e = sym (le-ltb max_points (base + n) (omega (arith, ltb-false (max_points - base) n e)))
 
 -- the number of what was seen
 pub seen-number : (f : Frame) (l : Lent) (n : ℕ) (s : Seen) → s ≡ seen_in max_reading f.tofs f.scans f.readings
@@ -86,10 +77,10 @@ accepted f l e =
 pub answered : (f : Frame) (l m : Lent) (base last : ℕ) (c : Counts) → number_for f l ≡ 0 → base ≡ f.base → last ≡ f.count - 1
     → Viewed base last (bins_of f) f.scans f.readings l.bins l.offsets l.scans l.readings c m.bins m.offsets m.scans m.readings
     → drop (length f.tofs) m.keys ≡ drop (length f.tofs) l.keys → drop (length f.tofs) m.order ≡ drop (length f.tofs) l.order
-    → drop (length f.tofs) m.spare ≡ drop (length f.tofs) l.spare → Answered f l m (Built c.bins c.points)
+    → drop (length f.tofs) m.spare ≡ drop (length f.tofs) l.spare → Answered f l m (Ok c)
 unfolding view_scans view_readings
 answered f l m base last c e b g v h i j =
-    let counts : (c.bins, c.points) ≡ counts_of f = rw (v.counted, v.points) in
+    let counts : c ≡ counts_of f = rw (v.counted, v.points) in
     record {
       answered = says-values (counts_of f) (sym e) refl counts;
       bins = rw e (rw v.counted at v.bins);
@@ -101,15 +92,15 @@ answered f l m base last c e b g v h i j =
       spare = rw e j;
     }
 
-pub refused : (number : ℕ) (f : Frame) (l : Lent) → number ≡ number_for f l → (number ≡ 0 → ⊥) → Answered f l l (Refused number)
-refused number f l i h =
-    let e : eqb (number_for f l) 0 ≡ false = ap (λ (k : ℕ). eqb k 0) (sym i) ∙ ne_eqb number 0 h in
+pub refused : (e : Refusal) (f : Frame) (l : Lent) → number_of e ≡ number_for f l → Answered f l l (Err e)
+refused e f l i =
+    let z : eqb (number_for f l) 0 ≡ false = ap (λ (k : ℕ). eqb k 0) (sym i) ∙ ne_eqb (number_of e) 0 (number_of-positive e) in
     record {
-      answered = says-number (counts_of f) i h;
-      bins = rw e;
-      offsets = rw e;
-      scans = rw e;
-      readings = rw e;
+      answered = says-err e (counts_of f) i;
+      bins = rw z;
+      offsets = rw z;
+      scans = rw z;
+      readings = rw z;
       keys = refl;
       order = refl;
       spare = refl;

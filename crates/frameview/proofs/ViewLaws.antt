@@ -1,17 +1,12 @@
--- What the number of a frame's points says, and which answer it is.
+-- What the number of a frame's points says.
 use mathlib.Core.Path.{◌≡◌, refl}
 use mathlib.Core.Bool.{true, false}
 use Prim.Native.Nat.{ℕ}
 use Rattle.refusal.specs.Refusal.{first_of, ascending_from}
 use Rattle.refusal.proofs.RefusalLaws.{lowest_by, none-by, applies_for}
-use Rattle.refusal.specs.AnswersLaws.{from_says}
-use Rattle.refusal.proofs.AnswersLaws.{which}
 use Rattle.frameview.specs.declared.numbers.Room.{Room}
-use Rattle.frameview.specs.declared.ViewAnswer.{ViewAnswer}
-use Rattle.frameview.specs.declared.ViewAnswer.TheVariants.{Built, Refused}
-use Rattle.frameview.specs.ViewNumber.{view_says}
 use Rattle.frameview.specs.Answer.{Frame, view_checks, view_number}
-use Rattle.frameview.specs.ViewLaws.{ViewLowest, ViewTold}
+use Rattle.frameview.specs.ViewLaws.{ViewLowest}
 
 module _ (limit : ℕ) (f : Frame) (room : Room) where
   number_is : view_number limit f room ≡ first_of (view_checks limit f room)
@@ -29,14 +24,3 @@ module _ (limit : ℕ) (f : Frame) (room : Room) where
 -- it is the lowest that applies
 pub number-lowest : ViewLowest
 number-lowest limit f room h = lowest_by (view_checks limit f room) (number_is limit f room) (ascending limit f room) h
-
--- an answer is told by what it says
-abbrev built : ℕ × ℕ → ViewAnswer
-built c = Built c.0 c.1
-
-again : (r : ViewAnswer) → r ≡ from_says built Refused (view_says r)
-again (Built bins points) = refl
-again (Refused n) = refl
-
-pub view-which : ViewTold
-view-which r n bins points e = which built Refused view_says again r n (bins, points) e

@@ -1,13 +1,15 @@
 -- What is left of a frame's points, accepted or refused.
-use Rattle.std.specs.Prelude.{◌≡◌, cond, List, ◌++◌, ℕ, ◌+◌, eqb, length, drop, Float}
+use Rattle.std.specs.Prelude.{◌≡◌, cond, List, ◌++◌, ℕ, ◌+◌, eqb, length, drop, Float, Result}
 use Rattle.refusal.specs.Refusal.{Check, first_of}
+use Rattle.refusal.specs.declared.Refusal.{Refusal}
 use Rattle.refusal.specs.Answers.{answer_by}
+use Rattle.refusal.specs.Numbered.{says}
 use Rattle.limits.specs.Limits.{max_reading}
 use Rattle.tof.specs.declared.TofScale.{TofScale}
+use Rattle.framebins.specs.declared.inner.Counts.{Counts}
 use Rattle.framebins.specs.FrameBins.{point_bins, kept, view_bins, view_offsets, view_scans, view_readings}
 use Rattle.frameview.specs.declared.numbers.Room.{Room}
-use Rattle.frameview.specs.declared.ViewAnswer.{ViewAnswer}
-use Rattle.frameview.specs.ViewNumber.{seen_in, checks_of, view_says}
+use Rattle.frameview.specs.ViewNumber.{seen_in, checks_of}
 
 -- the points of a frame, the scale, the count of scans, and how many points the index has already
 pub record Frame : Type 0 where
@@ -63,8 +65,8 @@ abbrev pub bins_of : Frame → List ℕ
 bins_of f = point_bins f.scale f.tofs
 
 -- how many bins and how many points it has in the index
-abbrev pub counts_of : Frame → ℕ × ℕ
-counts_of f = (length (view_bins (bins_of f)), kept (bins_of f))
+abbrev pub counts_of : Frame → Counts
+counts_of f = record { bins = length (view_bins (bins_of f)); points = kept (bins_of f) }
 
 -- what stands in a lent list if the number is 0: the list at the front, and from place n on what was there; else all that was there
 abbrev pub left_in : {A : Type 0} → ℕ → List A → ℕ → List A → List A
@@ -77,8 +79,8 @@ used_of number f = cond (eqb number 0) (length f.tofs) 0
 -- What is left of a frame's points, whose number is that for the lent lists as they were. Accepted, with number 0: each list of the
 -- frame's part stands at the front of its lent one, and what a scratch holds before the count of points is open. Refused: all is as it
 -- was.
-pub record Answered (f : Frame) (lent₀ lent : Lent) (answer : ViewAnswer) : Type 0 where
-  pub answered : view_says answer ≡ answer_by (number_for f lent₀) (counts_of f)
+pub record Answered (f : Frame) (lent₀ lent : Lent) (answer : Result Counts Refusal) : Type 0 where
+  pub answered : says answer ≡ answer_by (number_for f lent₀) (counts_of f)
   pub bins : lent.bins ≡ left_in (number_for f lent₀) (view_bins (bins_of f)) (length (view_bins (bins_of f))) lent₀.bins
   pub offsets : lent.offsets ≡ left_in (number_for f lent₀) (view_offsets f.base (bins_of f)) (length (view_bins (bins_of f)) + 1) lent₀.offsets
   pub scans : lent.scans ≡ left_in (number_for f lent₀) (view_scans f.count (bins_of f) f.scans) (kept (bins_of f)) lent₀.scans

@@ -1,8 +1,6 @@
 -- Which number of document 01 the points of a frame are answered with, 0 for none.
 use Rattle.std.specs.Prelude.{Bool, not, ◌&&◌, ◌||◌, List, [], ◌∷◌, ℕ, ◌+◌, ltb, leb, eqb, length, Float}
-use Rattle.std.proofs.Math.Option.{none, some}
 use Rattle.refusal.specs.Refusal.{Check}
-use Rattle.refusal.specs.Answers.{Says}
 use Rattle.limits.specs.Limits.{max_tof, max_scan, max_points}
 use Rattle.numeric.specs.Numeric.{all_in_range}
 use Rattle.params.specs.Params.{all_up_to}
@@ -10,8 +8,6 @@ use Rattle.tof.specs.Tof.{sound_step, sound_ends, agreeing}
 use Rattle.tof.specs.declared.TofScale.{TofScale}
 use Rattle.frameview.specs.declared.numbers.Seen.{Seen}
 use Rattle.frameview.specs.declared.numbers.Room.{Room}
-use Rattle.frameview.specs.declared.ViewAnswer.{ViewAnswer}
-use Rattle.frameview.specs.declared.ViewAnswer.TheVariants.{Built, Refused}
 
 -- What reading the lists of a frame's points shows: how long they are, and whether what they hold is in range, those of points that
 -- have no bin too. Readings go from 0 to a limit, TOF values to 4,194,303, scans to 65,535.
@@ -46,8 +42,3 @@ checks_of s count base scale room =
     ∷ record { number = 21; applies = short s.tofs room }
     ∷ record { number = 22; applies = not (agreeing scale) }
     ∷ []
-
--- what an answer says: the counts of bins and of points, or the number that applies
-abbrev pub view_says : ViewAnswer → Says (ℕ × ℕ)
-view_says (Built bins points) = record { number = 0; values = some (bins, points) }
-view_says (Refused n) = record { number = n; values = none }

@@ -1,10 +1,12 @@
 // The numbers of a frame's points, by what reading their lists shows.
 ghost use Rattle.std.specs.Prelude.{◌≡◌, ◌&&◌, ◌||◌, ◌+◌, ltb, leb, eqb};
+ghost use Rattle.refusal.specs.Numbered.{number_in};
 ghost use Rattle.refusal.specs.Refusal.{first_of};
 ghost use Rattle.limits.specs.Limits.{max_points, max_scan};
 ghost use Rattle.tof.specs.Tof.{sound_step, sound_ends};
 ghost use Rattle.frameview.specs.ViewNumber.{checks_of, narrow, short};
 
+use refusal::Refusal;
 use tof::TofScale;
 
 // What reading the lists of a frame's points shows: how long they are, and whether what they hold is in range.
@@ -34,10 +36,7 @@ pub struct Room {
 fn too_many(base: usize, n: usize) -> bool
     ensures { result ≡ ltb max_points (base + n) }
 {
-    if base > limits::MAX_POINTS {
-        return true;
-    }
-    n > limits::MAX_POINTS - base
+    base.saturating_add(n) > limits::MAX_POINTS
 }
 
 // The parts of the numbers 4, 5, 20 and 21.
@@ -65,33 +64,34 @@ fn is_short(n: usize, room: Room) -> bool
     (room.keys < n) | (room.order < n) | (room.spare < n)
 }
 
-// The lowest number that applies, or 0.
-pub fn number(s: Seen, count: u32, base: usize, scale: TofScale, room: Room) -> u32
-    ensures { result ≡ first_of (checks_of s count base scale room) }
+// Refuses with the lowest number that applies.
+#[tactic(auto, unfolding(refusal::specs::Refusal::first_of))]
+pub fn check(s: Seen, count: u32, base: usize, scale: TofScale, room: Room) -> Result<(), Refusal>
+    ensures { number_in result ≡ first_of (checks_of s count base scale room) }
 {
     if !((s.scans == s.tofs) & (s.readings == s.tofs)) {
-        return 1;
+        return Err(Refusal::Lengths);
     }
     if too_many(base, s.tofs) {
-        return 2;
+        return Err(Refusal::Size);
     }
     if !s.sound_readings {
-        return 3;
+        return Err(Refusal::Reading);
     }
     if !sound_values(scale.tof_step, count) {
-        return 4;
+        return Err(Refusal::Value);
     }
     if !sound_axes(s.sound_tofs, s.sound_scans, scale) {
-        return 5;
+        return Err(Refusal::Axis);
     }
     if is_narrow(s.tofs, room) {
-        return 20;
+        return Err(Refusal::Room);
     }
     if is_short(s.tofs, room) {
-        return 21;
+        return Err(Refusal::Scratch);
     }
     if !tof::inner::agrees(scale) {
-        return 22;
+        return Err(Refusal::Scale);
     }
-    0
+    Ok(())
 }

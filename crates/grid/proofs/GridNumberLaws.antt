@@ -1,16 +1,12 @@
--- What the number of a grid says, and which answer it is.
+-- What the number of a grid says.
 use mathlib.Core.Path.{◌≡◌, refl}
 use mathlib.Core.Bool.{true, false}
 use Prim.Native.Nat.{ℕ}
 use Rattle.refusal.specs.Refusal.{first_of, ascending_from}
 use Rattle.refusal.proofs.RefusalLaws.{lowest_by, none-by, applies_for}
-use Rattle.refusal.specs.AnswersLaws.{from_says}
-use Rattle.refusal.proofs.AnswersLaws.{which}
 use Rattle.gridrows.specs.Grid.{Grid}
-use Rattle.grid.specs.GridNumber.{grid_checks, grid_number, grid_says}
-use Rattle.grid.specs.GridNumberLaws.{GridLowest, GridTold}
-use Rattle.grid.specs.declared.GridAnswer.{GridAnswer}
-use Rattle.grid.specs.declared.GridAnswer.TheVariants.{Peaks, Refused}
+use Rattle.grid.specs.GridNumber.{grid_checks, grid_number}
+use Rattle.grid.specs.GridNumberLaws.{GridLowest}
 
 pub number_is : (g : Grid) (rows room scratch : ℕ) → grid_number g rows room scratch ≡ first_of (grid_checks g rows room scratch)
 unfolding grid_number
@@ -28,11 +24,3 @@ module _ (g : Grid) (rows room scratch : ℕ) where
 -- it is the lowest that applies
 pub number-lowest : GridLowest
 number-lowest g rows room scratch h = lowest_by (grid_checks g rows room scratch) (number_is g rows room scratch) (ascending g rows room scratch) h
-
--- an answer is told by what it says
-again : (r : GridAnswer) → r ≡ from_says Peaks Refused (grid_says r)
-again (Peaks count) = refl
-again (Refused n) = refl
-
-pub grid-which : GridTold
-grid-which r n count e = which Peaks Refused grid_says again r n count e

@@ -10,7 +10,10 @@ use lib.Dec.{ltb, eqb}
 use lib.ListN.{length, drop}
 use lib.Ieee.{Float}
 use Rattle.refusal.specs.Refusal.{first_of}
-use Rattle.refusal.proofs.AnswersLaws.{says-number, says-values}
+use Rattle.std.specs.Prelude.{Ok, Err}
+use Rattle.refusal.specs.declared.Refusal.{Refusal}
+use Rattle.refusal.specs.Numbered.{number_of}
+use Rattle.refusal.proofs.NumberedLaws.{says-ok, says-err, number_of-positive}
 use Rattle.refusal.proofs.Bools.{clash, both, all4, all5, neither}
 use Rattle.params.specs.Params.{most_peaks, sound_params, all_up_to}
 use Rattle.row.specs.Written.{as_words}
@@ -18,7 +21,6 @@ use Rattle.gridrows.specs.Grid.{Grid, count_to}
 use Rattle.grid.specs.GridNumber.{seen_in, checks_of, grid_number}
 use Rattle.grid.proofs.GridNumberLaws.{none-for}
 use Rattle.grid.specs.declared.numbers.Seen.{Seen}
-use Rattle.grid.specs.declared.GridAnswer.TheVariants.{Peaks, Refused}
 use Rattle.gridrows.specs.Steps.{Ready, Done}
 use Rattle.grid.specs.Answer.{Answered, number_for}
 
@@ -102,14 +104,14 @@ accepted g rows room space e =
 
 -- what is left of all rows of a grid with number 0, and of a grid with another number
 pub answered : (g : Grid) (rows : ℕ) (d out : List ℕ) (s scratch : List Float) (n : ℕ) → number_for g rows d s ≡ 0 → length scratch ≡ length s
-    → Done as_words g 0 rows d out n → drop g.cols scratch ≡ drop g.cols s → Answered g rows d out s scratch (Peaks n)
+    → Done as_words g 0 rows d out n → drop g.cols scratch ≡ drop g.cols s → Answered g rows d out s scratch (Ok n)
 answered g rows d out s scratch n e l h k =
     let z : rows - 0 ≡ rows = omega arith in
     let c : n ≡ count_to g rows = h.count ∙ rw z in
-    record { answered = says-values (count_to g rows) (sym e) refl c; words = rw e (h.words ∙ rw (z, c)); length-kept = l; past = rw e k }
+    record { answered = says-ok (count_to g rows) (sym e) c; words = rw e (h.words ∙ rw (z, c)); length-kept = l; past = rw e k }
 
-pub refused : (number : ℕ) (g : Grid) (rows : ℕ) (d : List ℕ) (s : List Float) → number ≡ number_for g rows d s → (number ≡ 0 → ⊥)
-    → Answered g rows d d s s (Refused number)
-refused number g rows d s i h =
-    let e : eqb (number_for g rows d s) 0 ≡ false = ap (λ (k : ℕ). eqb k 0) (sym i) ∙ ne_eqb number 0 h in
-    record { answered = says-number (count_to g rows) i h; words = rw e; length-kept = refl; past = refl }
+pub refused : (refusal : Refusal) (g : Grid) (rows : ℕ) (d : List ℕ) (s : List Float) → number_of refusal ≡ number_for g rows d s
+    → Answered g rows d d s s (Err refusal)
+refused refusal g rows d s i =
+    let e : eqb (number_for g rows d s) 0 ≡ false = ap (λ (k : ℕ). eqb k 0) (sym i) ∙ ne_eqb (number_of refusal) 0 (number_of-positive refusal) in
+    record { answered = says-err refusal (count_to g rows) i; words = rw e; length-kept = refl; past = refl }

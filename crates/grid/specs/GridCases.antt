@@ -6,7 +6,7 @@ use Rattle.numeric.specs.Numeric.{in_range, all_in_range}
 use Rattle.refusal.specs.Refusal.{first_of}
 use Rattle.record.specs.Record.{size}
 use Rattle.params.specs.Params.{sound_params, sound_bounds, all_up_to, rising, rising_from}
-use Rattle.params.specs.declared.WindowGroup.TheVariants.{Missing}
+use Rattle.std.specs.Prelude.{None}
 use Rattle.smoothing.specs.Smoothing.{sound_weights}
 use Rattle.tof.specs.Tof.{sound_step, sound_ends, agreeing}
 use Rattle.gridrows.specs.Grid.{Grid}
@@ -18,7 +18,7 @@ abbrev grid : ℕ → ℕ → List ℕ → List ℕ → List ℕ → List Float 
 grid top bins raw smooth scans weights first =
     call_grid (lib.ListN.length scans) (map index_f raw) (map index_f smooth) scans
     (record { tof_min = 0; tof_max = top; tof_step = 1; num_bins = bins })
-    (record { rt_lo = 0; rt_hi = 0; frame_id_lo = 0; frame_id_hi = 0; window_group = Missing })
+    (record { rt_lo = 0; rt_hi = 0; frame_id_lo = 0; frame_id_hi = 0; window_group = None })
     []
     (record { min_prom = 𝟎; min_distance_scans = 0; min_width_scans = 0 })
     weights

@@ -1,8 +1,6 @@
 -- Which number of document 01 a grid is answered with, 0 for none.
 use Rattle.std.specs.Prelude.{not, ◌&&◌, ◌||◌, List, [], ◌∷◌, ℕ, ◌*◌, ltb, eqb, length, Float}
-use Rattle.std.proofs.Math.Option.{none, some}
 use Rattle.refusal.specs.Refusal.{Check, first_of}
-use Rattle.refusal.specs.Answers.{Says}
 use Rattle.limits.specs.Limits.{max_reading, max_mobility, max_scan, max_rows, max_samples}
 use Rattle.numeric.specs.Numeric.{all_in_range}
 use Rattle.record.specs.Record.{size}
@@ -14,8 +12,6 @@ use Rattle.tof.specs.Tof.{sound_step, sound_ends, agreeing}
 use Rattle.tof.specs.declared.TofScale.{TofScale}
 use Rattle.gridrows.specs.Grid.{Grid}
 use Rattle.grid.specs.declared.numbers.Seen.{Seen}
-use Rattle.grid.specs.declared.GridAnswer.{GridAnswer}
-use Rattle.grid.specs.declared.GridAnswer.TheVariants.{Peaks, Refused}
 
 -- What reading the lists of a grid shows: how long they are, and whether what they hold is in range. Readings go from 0 to 2^32,
 -- mobilities from 0 to 2^20, scans to 65,535.
@@ -62,8 +58,3 @@ grid_checks g rows room scratch =
 
 unfoldable pub grid_number : Grid → ℕ → ℕ → ℕ → ℕ
 grid_number g rows room scratch = first_of (grid_checks g rows room scratch)
-
--- what an answer says: the count of peaks, or the number that applies
-abbrev pub grid_says : GridAnswer → Says ℕ
-grid_says (Peaks count) = record { number = 0; values = some count }
-grid_says (Refused n) = record { number = n; values = none }

@@ -12,16 +12,12 @@ ghost use Rattle.grid.specs.GridNumber.{seen_in};
 ghost use Rattle.gridrows.specs.Steps.{call_grid};
 ghost use Rattle.grid.specs.Answer.{Answered};
 
+use gridrows::call::GridCall;
 use numbers::Seen;
 use params::{FrameBounds, ImDetectParams};
 use record::PeakId;
+use refusal::Refusal;
 use tof::TofScale;
-
-#[derive(Clone, Copy)]
-pub enum GridAnswer {
-    Peaks(usize),
-    Refused(u32),
-}
 
 fn used_len(raw: &[f32], smooth: &[f32]) -> usize
     ensures { result ≡ length (used_of raw.now smooth.now) }
@@ -70,20 +66,20 @@ pub fn detect_im_peaks_from_tof_scan_grid<'a>(
     cols: usize,
     data: &'a [f32],
     data_raw: &'a [f32],
-    scans: &[u32],
+    scans: &'a [u32],
     scale: TofScale,
     bounds: FrameBounds,
-    mobility: &[f32],
+    mobility: &'a [f32],
     p: ImDetectParams,
-    weights: &[f32],
+    weights: &'a [f32],
     first: PeakId,
     out: &mut [u32],
     scratch: &mut [f32],
-) -> GridAnswer
+) -> Result<usize, Refusal>
     ensures { Answered (call_grid cols data_raw.now «data».now scans.now scale bounds mobility.now p weights.now first) rows out.old out.new scratch.old scratch.new result }
 {
     let seen = see(data_raw, data, scans, mobility, weights);
-    let no = numbers::number(
+    numbers::check(
         seen,
         rows,
         cols,
@@ -93,12 +89,17 @@ pub fn detect_im_peaks_from_tof_scan_grid<'a>(
         first,
         out.len(),
         scratch.len(),
-    );
-    if no == 0 {
-        return GridAnswer::Peaks(gridrows::sized::detect(
-            data_raw, data, cols, 0, rows, scans, scale, bounds, mobility, p, weights, first, out,
-            scratch,
-        ));
-    }
-    GridAnswer::Refused(no)
+    )?;
+    let call = GridCall {
+        cols,
+        raw: data_raw,
+        smooth: data,
+        scans,
+        scale,
+        bounds,
+        mobility,
+        params: p,
+        first,
+    };
+    Ok(gridrows::sized::detect(&call, weights, 0, rows, out, scratch))
 }

@@ -1,12 +1,14 @@
 // The numbers of a grid, by what reading its lists shows.
 ghost use Rattle.std.specs.Prelude.{◌≡◌, ◌&&◌, ◌||◌, ◌*◌, eqb, length};
 ghost use Rattle.refusal.specs.Refusal.{first_of};
+ghost use Rattle.refusal.specs.Numbered.{number_in};
 ghost use Rattle.params.specs.Params.{sound_params, sound_bounds, enough_ids};
 ghost use Rattle.tof.specs.Tof.{sound_step, sound_ends};
 ghost use Rattle.grid.specs.GridNumber.{checks_of};
 
 use params::{FrameBounds, ImDetectParams};
 use record::{ImPeak1D, PeakId};
+use refusal::Refusal;
 use tof::TofScale;
 
 // What reading the lists of a grid shows: how long they are, and whether what they hold is in range.
@@ -52,9 +54,9 @@ fn sound_values(
 ) -> bool
     ensures { result ≡ (sound_params p && mobility && sound_bounds bounds && sound_step step && enough_ids first peaks) }
 {
-    params::inner::sound_params(p)
+    p.is_sound()
         & mobility
-        & params::inner::sound_bounds(bounds)
+        & bounds.is_sound()
         & tof::inner::sound_step(step)
         & params::inner::enough_ids(first, peaks)
 }
@@ -65,8 +67,9 @@ fn sound_axis(scans: bool, scale: TofScale) -> bool
     scans & tof::inner::sound_ends(scale)
 }
 
-// The lowest number that applies, or 0; `room` and `space` are the lengths of the lent list and of the lent scratch.
-pub fn number(
+// Refuses with the lowest number that applies; `room` and `space` are the lengths of the lent list and of the lent scratch.
+#[tactic(auto, unfolding(refusal::specs::Refusal::first_of))]
+pub fn check(
     s: Seen,
     rows: usize,
     cols: usize,
@@ -76,39 +79,39 @@ pub fn number(
     first: PeakId,
     room: usize,
     space: usize,
-) -> u32
-    ensures { result ≡ first_of (checks_of s rows cols scale bounds p first room space) }
+) -> Result<(), Refusal>
+    ensures { number_in result ≡ first_of (checks_of s rows cols scale bounds p first room space) }
 {
     if !same_sizes(s, rows, cols, scale.num_bins) {
-        return 1;
+        return Err(Refusal::Lengths);
     }
     if (rows > limits::MAX_ROWS) | (cols > limits::MAX_SAMPLES) {
-        return 2;
+        return Err(Refusal::Size);
     }
     if !s.sound_readings {
-        return 3;
+        return Err(Refusal::Reading);
     }
     let peaks = rows * params::inner::most_peaks(cols);
     if !sound_values(p, s.sound_mobility, bounds, scale.tof_step, first, peaks) {
-        return 4;
+        return Err(Refusal::Value);
     }
     if !sound_axis(s.sound_scans, scale) {
-        return 5;
+        return Err(Refusal::Axis);
     }
     if !s.sound_weights {
-        return 6;
+        return Err(Refusal::Weights);
     }
     if !s.rising_scans {
-        return 7;
+        return Err(Refusal::Order);
     }
     if room < peaks * ImPeak1D::WORDS {
-        return 20;
+        return Err(Refusal::Room);
     }
     if space < cols {
-        return 21;
+        return Err(Refusal::Scratch);
     }
     if !tof::inner::agrees(scale) {
-        return 22;
+        return Err(Refusal::Scale);
     }
-    0
+    Ok(())
 }

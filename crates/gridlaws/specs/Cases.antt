@@ -10,7 +10,7 @@ use Rattle.apex.specs.Apex.{is_candidate, candidates_to, left_of, up_to_higher, 
 use Rattle.spans.specs.Span.{width_of}
 use Rattle.record.specs.Record.{size}
 use Rattle.params.specs.Params.{sound_params, sound_bounds, all_up_to, rising, rising_from}
-use Rattle.params.specs.declared.WindowGroup.TheVariants.{Missing}
+use Rattle.std.specs.Prelude.{None}
 use Rattle.rowsearch.specs.Suppression.{keep, keep_all}
 use Rattle.rowsearch.specs.Qualifying.{highest_reading, left_x, right_x, width, qualifies, that_qualify, qualifying, kept}
 use Rattle.smoothrow.specs.SmoothRow.{searched}
@@ -24,7 +24,7 @@ abbrev grid : Grid
 grid =
     grid_of 3 (map index_f (0 ∷ 4 ∷ 0 ∷ 0 ∷ 8 ∷ 0 ∷ [])) (7 ∷ 8 ∷ 9 ∷ [])
     (record { tof_min = 0; tof_max = 1; tof_step = 1; num_bins = 2 })
-    (record { rt_lo = 0; rt_hi = 0; frame_id_lo = 0; frame_id_hi = 0; window_group = Missing })
+    (record { rt_lo = 0; rt_hi = 0; frame_id_lo = 0; frame_id_hi = 0; window_group = None })
     []
     (record { min_prom = 𝟎; min_distance_scans = 0; min_width_scans = 0 })
     []

@@ -20,7 +20,7 @@ use Rattle.params.specs.Params.{most_peaks}
 use Rattle.params.specs.declared.ImDetectParams.{ImDetectParams}
 use Rattle.params.specs.declared.RowPlace.{RowPlace}
 use Rattle.params.specs.declared.FrameBounds.{FrameBounds}
-use Rattle.smoothing.specs.Smoothing.{normalised, sound_weights}
+use Rattle.smoothing.specs.Smoothing.{sound_weights}
 use Rattle.rowsearch.specs.Qualifying.{kept}
 use Rattle.rowsearch.proofs.QualifyingLaws.{kept-count}
 use Rattle.smoothrow.specs.SmoothRow.{searched, sound_or_none}
@@ -32,7 +32,7 @@ use Rattle.row.proofs.Laws.{put-none, put-length}
 use Rattle.row.proofs.Laws as rows
 use Rattle.tof.specs.Tof.{row_place}
 use Rattle.gridrows.specs.Grid.{Grid, used_of, row_of, listed_in, words_in, count_from, words_from}
-use Rattle.gridrows.specs.Steps.{Handed, RowPut, Lent, RowReady, RowDone, Ready, Done, numbered}
+use Rattle.gridrows.specs.Steps.{Handed, RowPut, RowReady, RowDone, Ready, Done, numbered}
 
 -- ---- which readings are worked on
 pub smooth-used : (raw smooth : List Float) → length raw ≡ 0 → used_of raw smooth ≡ smooth
@@ -65,29 +65,23 @@ module _ (w : Written) (place : RowPlace) (bounds : FrameBounds) (mobility : Lis
       let l = rows.listed-none place bounds mobility axis (searched weights z) z first w d in
       record { count = rw e; words = rw e l.front }
 
--- lists that are long enough
-pub lent : (n scratch turns bases found : ℕ) → n ≤ scratch → n ≤ turns → turns ≤ 2 * bases + 1 → 4 * turns ≤ found + 4 → Lent n scratch turns bases found
-lent n scratch turns bases found a b c d =
-    record { long = a; room = record { turns-long = b; bases-long = omega arith; found-long = omega arith } }
-
 -- ---- one row of a grid
-module _ (g : Grid) (u : List Float) (r room : ℕ) (h : RowReady g u r room) where
+module _ (g : Grid) (r room : ℕ) (h : RowReady g r room) where
   pub row-length : length (row_of g r) ≡ g.cols
   row-length = length-take-le g.cols (drop (r * g.cols) g.used) (rw length-drop (omega (arith, h.readings)))
 
-  pub row-handed : (scratch turns bases found : ℕ) (z : List Float) → Lent g.cols scratch turns bases found → z ≡ row_of g r
-      → Handed z g.scans g.weights u g.first room scratch turns bases found
-  row-handed scratch turns bases found z k e =
+  pub row-handed : (scratch samples : ℕ) (z : List Float) → g.cols ≤ scratch → g.cols ≤ samples → z ≡ row_of g r
+      → Handed z g.scans g.weights g.first room scratch samples
+  row-handed scratch samples z j k e =
       let l : length z ≡ g.cols = ap length e ∙ row-length in
       record {
         search =
             record {
               readings = rw e (all_take 0x4f80_0000 g.cols (drop (r * g.cols) g.used) (all_drop 0x4f80_0000 (r * g.cols) g.used h.ranged));
               weighed = h.weighed;
-              divided = h.divided;
               short = rw l h.short;
-              long = rw l k.long;
-              room = rw l k.room;
+              long = rw l j;
+              room = rw l k;
             };
         row = record { raw = refl; scans = h.scans ∙ sym l; short = rw l h.short; words = rw l h.words; ids = rw l h.ids };
       }
@@ -198,8 +192,8 @@ module _ (g : Grid) (from to room : ℕ) (h : Ready g from to room) (r n : ℕ) 
   turn-room = omega (arith, turn-most, h.words)
 
   -- `left` words are left behind those of the n peaks
-  pub turn-ready : (u : List Float) (left : ℕ) → u ≡ normalised g.weights → room ≤ n * size + left → RowReady (numbered g (g.first + n)) u r left
-  turn-ready u left e l =
+  pub turn-ready : (left : ℕ) → room ≤ n * size + left → RowReady (numbered g (g.first + n)) r left
+  turn-ready left l =
       let b : (r + 1) * g.cols ≤ to * g.cols = mul-le-mul_right g.cols (omega arith) in
       record {
         readings = omega (arith, product-step r g.cols, h.readings);
@@ -209,7 +203,6 @@ module _ (g : Grid) (from to room : ℕ) (h : Ready g from to room) (r n : ℕ) 
         scale = h.scale;
         bin = omega (arith, h.bins);
         weighed = h.weighed;
-        divided = e;
         words = omega (arith, turn-room);
         ids = omega (arith, turn-most, h.ids);
       }

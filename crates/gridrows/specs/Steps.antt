@@ -7,9 +7,7 @@ use Rattle.params.specs.Params.{most_peaks}
 use Rattle.params.specs.declared.ImDetectParams.{ImDetectParams}
 use Rattle.params.specs.declared.RowPlace.{RowPlace}
 use Rattle.params.specs.declared.FrameBounds.{FrameBounds}
-use Rattle.smoothing.specs.Smoothing.{normalised}
 use Rattle.rowsearch.specs.Qualifying.{kept}
-use Rattle.rowsearch.specs.Found.{Room}
 use Rattle.smoothrow.specs.SmoothRow.{searched, sound_or_none}
 use Rattle.smoothrow.specs.SmoothRow as smooth
 use Rattle.row.specs.Row.{row_words}
@@ -17,9 +15,10 @@ use Rattle.row.specs.Written.{Written, stride}
 use Rattle.row.specs.Steps as row
 use Rattle.tof.specs.Tof.{Sound}
 use Rattle.tof.specs.declared.TofScale.{TofScale}
+use Rattle.gridrows.specs.declared.call.GridCall.{GridCall}
 use Rattle.gridrows.specs.Grid.{Grid, used_of, listed_in, words_in, count_from, words_from}
 
--- the grid of some lists, and of a call's arguments
+-- the grid of some lists, and of a call's arguments with weights
 abbrev pub grid_of : ℕ → List Float → List ℕ → TofScale → FrameBounds → List Float → ImDetectParams → List Float → ℕ → Grid
 grid_of cols used scans scale bounds mobility p weights first =
     record {
@@ -38,11 +37,15 @@ abbrev pub call_grid : ℕ → List Float → List Float → List ℕ → TofSca
 call_grid cols raw smooth scans scale bounds mobility p weights first =
     grid_of cols (used_of raw smooth) scans scale bounds mobility p weights first
 
+abbrev pub grid_in : GridCall → List Float → Grid
+grid_in c weights =
+    call_grid c.cols c.raw.now c.smooth.now c.scans.now c.scale c.bounds c.mobility.now c.params weights c.first
+
 -- ---- one row
 
 -- A row z that is handed in: what its search asks, and what writing its records asks, with room for so many words.
-pub record Handed (z : List Float) (axis : List ℕ) (weights u : List Float) (first room scratch turns bases found : ℕ) : Type 0 where
-  pub search : smooth.Handed z weights u scratch turns bases found
+pub record Handed (z : List Float) (axis : List ℕ) (weights : List Float) (first room scratch samples : ℕ) : Type 0 where
+  pub search : smooth.Handed z weights scratch samples
   pub row : row.Writable z z axis first room
 
 -- what is left of a row z of which n peaks are listed; `out₀` is what was lent
@@ -50,13 +53,8 @@ pub record RowPut (w : Written) (place : RowPlace) (bounds : FrameBounds) (mobil
   pub count : n ≡ length (kept p (searched weights z) z)
   pub words : out ≡ w.put (row_words place bounds mobility axis (searched weights z) z first (kept p (searched weights z) z)) ++ drop (n * stride w) out₀
 
--- lists that are long enough for the search of a row of n samples
-pub record Lent (n scratch turns bases found : ℕ) : Type 0 where
-  pub long : n ≤ scratch
-  pub room : Room n turns bases found
-
 -- row r of a grid can be searched: the readings, the bin, room for the words of its peaks and identities are there
-pub record RowReady (g : Grid) (u : List Float) (r room : ℕ) : Type 0 where
+pub record RowReady (g : Grid) (r room : ℕ) : Type 0 where
   pub readings : r * g.cols + g.cols ≤ length g.used
   pub ranged : all_in_range max_reading g.used ≡ true
   pub scans : length g.scans ≡ g.cols
@@ -64,7 +62,6 @@ pub record RowReady (g : Grid) (u : List Float) (r room : ℕ) : Type 0 where
   pub scale : Sound g.scale
   pub bin : r < g.scale.num_bins
   pub weighed : sound_or_none g.weights ≡ true
-  pub divided : u ≡ normalised g.weights
   pub words : most_peaks g.cols * size ≤ room
   pub ids : g.first + most_peaks g.cols ≤ identities
 

@@ -1,5 +1,6 @@
 // Detection over the rows of a grid that the caller has checked.
 #![tactic(auto)]
 
+pub mod call;
 pub mod rows;
 pub mod sized;

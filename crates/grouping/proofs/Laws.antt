@@ -1,14 +1,18 @@
 -- The walk over the places, step by step.
-use mathlib.Core.Path.{◌≡◌, refl, sym, ap, ◌∙◌}
+use mathlib.Core.Path.{◌≡◌, refl, sym, ap, subst, ◌∙◌}
+use mathlib.Core.List.Memᴰ
+use mathlib.Core.List.{Memᴰ}
 use mathlib.Core.Bool.{Bool, true, false, ◌&&◌}
 use mathlib.Core.List.{List, [], ◌∷◌, ◌++◌, map, reverse, reverse-cons, foldl-append, append_assoc, append-nil, map-append}
 use Prim.Native.Nat.{ℕ, suc, ◌+◌, ◌-◌, ◌*◌, ◌<◌, ◌≤◌}
 use native.Mathlib.Omega.{arith}
 use native.Mathlib.Numerals.{add-one}
-use lib.ListN.{length, get_or, take, drop, set, length-append, length-map, length-drop, drop_of_length-le}
+use lib.ListN.{length, get_or, take, drop, set, length-append, length-map, length-drop, drop_of_length-le, take-append-drop}
 use lib.Seq.{take-suc, get_or-drop, drop-cons, take_at, drop-append-add, drop-drop}
 use borrow.Author.Tests.{eqb-true}
 use lib.Dec.{eqb}
+use Rattle.std.specs.Prelude.{Option, Some, None, nat_eq}
+use Rattle.std.specs.Option.{option_eq}
 use Rattle.refusal.proofs.Bools.{both}
 use Rattle.record.specs.Record.{size, words_of, with_peak}
 use Rattle.record.specs.declared.ImPeak1D.{ImPeak1D}
@@ -22,7 +26,7 @@ use Rattle.keys.specs.declared.inner.Bucket.{Bucket}
 use Rattle.keys.specs.Keys.{is_same_bucket}
 use Rattle.merging.specs.Merging.{merged}
 use Rattle.grouping.specs.Grouping.{bucket_by, peaks_at, follows, groups_from, groups, group_peaks}
-use Rattle.grouping.specs.Walk.{part, Cut, numbered, marked, Grouped}
+use Rattle.grouping.specs.Walk.{part, Columned, Cut, numbered, marked, Grouped}
 use Rattle.grouping.proofs.GroupingLaws.{groups-join, groups-close}
 
 -- ---- lists
@@ -93,23 +97,34 @@ part-more order i k h l =
 pub part-first : (order : List ℕ) (i : ℕ) → i < length order → part order i (i + 1) ≡ get_or order i 0 ∷ []
 part-first order i l = part-more order i i (omega arith) l ∙ ap (λ (g : List ℕ). g ++ (get_or order i 0 ∷ [])) (part_none order i)
 
+-- a part of places that a column has
+pub columned-part : (column order : List ℕ) (i n : ℕ) → Columned column order → Columned column (take n (drop i order))
+columned-part column order i n h p m =
+    h p
+    (subst (Memᴰ p) (take-append-drop i order)
+    (Memᴰ.append_right (take i order) (subst (Memᴰ p) (take-append-drop n (drop i order)) (Memᴰ.append_left (drop n (drop i order)) m))))
+
 -- ---- where a group ends
 
 -- buckets that are the same one
-made : ℕ → ℕ → ℕ → ℕ → Bucket
-made a b d e = record { there = a; group = b; scans = d; rows = e }
+made : Option ℕ → ℕ → ℕ → Bucket
+made a b d = record { group = a; scans = b; rows = d }
+
+same_option : (x y : Option ℕ) → option_eq nat_eq x y ≡ true → x ≡ y
+same_option None None h = refl
+same_option None (Some n) h = absurd (cc)
+same_option (Some m) None h = absurd (cc)
+same_option (Some m) (Some n) h = ap Some (eqb-true m n h)
 
 pub same-bucket : (x y : Bucket) → is_same_bucket x y ≡ true → x ≡ y
 unfolding made
 same-bucket x y h =
-    let a = both (eqb x.there y.there && eqb x.group y.group && eqb x.scans y.scans) h in
-    let b = both (eqb x.there y.there && eqb x.group y.group) a.0 in
-    let d = both (eqb x.there y.there) b.0 in
-    let e : x.there ≡ y.there = eqb-true x.there y.there d.0 in
-    let f : x.group ≡ y.group = eqb-true x.group y.group d.1 in
-    let g : x.scans ≡ y.scans = eqb-true x.scans y.scans b.1 in
-    let i : x.rows ≡ y.rows = eqb-true x.rows y.rows a.1 in
-    let s : made x.there x.group x.scans x.rows ≡ made y.there y.group y.scans y.rows = rw (e, f, g, i) in s
+    let a = both (option_eq nat_eq x.group y.group && eqb x.scans y.scans) h in
+    let b = both (option_eq nat_eq x.group y.group) a.0 in
+    let e : x.group ≡ y.group = same_option x.group y.group b.0 in
+    let f : x.scans ≡ y.scans = eqb-true x.scans y.scans b.1 in
+    let g : x.rows ≡ y.rows = eqb-true x.rows y.rows a.1 in
+    let s : made x.group x.scans x.rows ≡ made y.group y.scans y.rows = rw (e, f, g) in s
 
 -- The tests have come to the k-th place: the group that starts at the i-th goes on to there. Its newest member stands before the k-th place,
 -- the others are `older`, newest first.

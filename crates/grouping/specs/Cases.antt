@@ -11,7 +11,7 @@ use Rattle.matching.specs.Matching.{same_group, rows_near, frames_overlap, scans
 use Rattle.matching.specs.Group.{row_span, scan_span, within_limits, may_join}
 use Rattle.keys.specs.declared.KeyRule.{KeyRule}
 use Rattle.keys.specs.declared.KeyRule.TheVariants.{First, Second}
-use Rattle.keys.specs.Keys.{bucket_of, key_of}
+use Rattle.keys.specs.Keys.{group_there, group_number, bucket_of, key_of}
 use Rattle.grouping.specs.Grouping.{bucket_by, follows, groups_from, groups, pass_groups}
 use Rattle.grouping.specs.Walk.{numbered, marked}
 
@@ -26,12 +26,12 @@ pass rule = pass_groups rule (asked 2 10) three
 -- In the first pass rows 100 and 102 stand apart, since their buckets differ: each has three rows, from a multiple of 3 on. Scans go
 -- by tens, and all three are of one interval, so that rows decide: 33, 34 and 66.
 pub first-pass : pass (First (asked 2 10)) ≡ (2 ∷ []) ∷ (0 ∷ []) ∷ (1 ∷ []) ∷ []
-unfolding pass_groups sorted_by inserted lex_lt up_to key_of bucket_of bucket_by groups groups_from follows may_join within_limits row_span scan_span extreme compatible same_group group_of rows_near at_most frames_overlap scans_overlap enough_common overlap jaccard_f samples apexes_inside inside max_f is_nan lt le add sub div of_int of_bits to_bits
+unfolding pass_groups sorted_by inserted lex_lt up_to key_of group_there group_number bucket_of bucket_by groups groups_from follows may_join within_limits row_span scan_span extreme compatible same_group group_of rows_near at_most frames_overlap scans_overlap enough_common overlap jaccard_f samples apexes_inside inside max_f is_nan lt le add sub div of_int of_bits to_bits
 first-pass = refl
 
 -- the second pass joins them
 pub second-pass : pass Second ≡ (2 ∷ 0 ∷ []) ∷ (1 ∷ []) ∷ []
-unfolding pass_groups sorted_by inserted lex_lt up_to key_of bucket_of bucket_by groups groups_from follows may_join within_limits row_span scan_span extreme compatible same_group group_of rows_near at_most frames_overlap scans_overlap enough_common overlap jaccard_f samples apexes_inside inside max_f is_nan lt le add sub div of_int of_bits to_bits
+unfolding pass_groups sorted_by inserted lex_lt up_to key_of group_there group_number bucket_of bucket_by groups groups_from follows may_join within_limits row_span scan_span extreme compatible same_group group_of rows_near at_most frames_overlap scans_overlap enough_common overlap jaccard_f samples apexes_inside inside max_f is_nan lt le add sub div of_int of_bits to_bits
 second-pass = refl
 
 -- and this is its column, where place 3 has no peak
@@ -42,5 +42,5 @@ second-column = refl
 -- Two peaks of one group and row: the one at the lower scan comes first, though its first frame is the later one. So the group that
 -- takes in both has their places in the order 1, 0.
 pub scan-before-frame : pass_groups Second (asked 2 10) (peak 100 0 9 1 7 22 17 29 1 ∷ peak 100 5 14 1 7 20 15 25 2 ∷ []) ≡ (1 ∷ 0 ∷ []) ∷ []
-unfolding pass_groups sorted_by inserted lex_lt up_to key_of bucket_of bucket_by groups groups_from follows may_join within_limits row_span scan_span extreme compatible same_group group_of rows_near at_most frames_overlap scans_overlap enough_common overlap jaccard_f samples apexes_inside inside max_f is_nan lt le add sub div of_int of_bits to_bits
+unfolding pass_groups sorted_by inserted lex_lt up_to key_of group_there group_number bucket_of bucket_by groups groups_from follows may_join within_limits row_span scan_span extreme compatible same_group group_of rows_near at_most frames_overlap scans_overlap enough_common overlap jaccard_f samples apexes_inside inside max_f is_nan lt le add sub div of_int of_bits to_bits
 scan-before-frame = refl

@@ -1,6 +1,6 @@
 -- One pass of stitching over a list of peaks: the peaks are sorted, cut into groups in their order, and each group is merged into one
 -- peak. A group is the list of its members' places, in their order.
-use Rattle.std.specs.Prelude.{Bool, true, false, cond, ◌&&◌, ◌||◌, List, [], ◌∷◌, map, reverse, ℕ, suc, eqb, length}
+use Rattle.std.specs.Prelude.{Bool, true, false, cond, ◌&&◌, ◌||◌, List, [], ◌∷◌, map, reverse, ℕ, suc, eqb, length, None}
 use Rattle.record.specs.declared.ImPeak1D.{ImPeak1D}
 use Rattle.peaklist.specs.PeakList.{nth}
 use Rattle.digits.specs.Sorted.{sorted_by, up_to}
@@ -21,8 +21,8 @@ peaks_at ps g = map (nth ps) g
 -- the bucket of a peak, out of which no group reaches: only the first pass has more than one
 unfoldable pub bucket_by : KeyRule → ImPeak1D → Bucket
 bucket_by (First params) p = bucket_of params p
-bucket_by Second p = record { there = 0; group = 0; scans = 0; rows = 0 }
-bucket_by Identity p = record { there = 0; group = 0; scans = 0; rows = 0 }
+bucket_by Second p = record { group = None; scans = 0; rows = 0 }
+bucket_by Identity p = record { group = None; scans = 0; rows = 0 }
 
 -- Whether a peak may join an open group, whose peaks stand newest first: within a bucket, as the tests say. A group without members
 -- takes in any peak.

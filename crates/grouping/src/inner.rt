@@ -12,24 +12,19 @@ ghost use Rattle.grouping.specs.Walk.{part, Cut, Gathered, Columned, numbered, G
 use keys::KeyRule;
 use keys::inner::Bucket;
 use matching::StitchParams;
+use matching::inner::Spans;
 use merging::inner::Merging;
 use record::ImPeak1D;
 
-// The bucket of a peak; the second pass has one for all.
+// The bucket of a peak; a pass by another rule than the first has one for all.
+#[tactic(auto, unfolding(crate::specs::Grouping::bucket_by))]
 fn bucket_by(p: ImPeak1D, rule: KeyRule) -> Bucket
     ensures { result ≡ bucket_by rule p }
 {
     match rule {
-        KeyRule::First(params) => keys::inner::bucket_of(p, params),
-        KeyRule::Second => Bucket {
-            there: 0,
-            group: 0,
-            scans: 0,
-            rows: 0,
-        },
-        KeyRule::Identity => Bucket {
-            there: 0,
-            group: 0,
+        KeyRule::First(params) => Bucket::of(p, params),
+        KeyRule::Second | KeyRule::Identity => Bucket {
+            group: None,
             scans: 0,
             rows: 0,
         },
@@ -37,13 +32,13 @@ fn bucket_by(p: ImPeak1D, rule: KeyRule) -> Bucket
 }
 
 // Whether b, a bucket of the pass, is that of a peak.
+#[tactic(auto, unfolding(crate::specs::Grouping::bucket_by))]
 fn is_of_bucket(b: Bucket, p: ImPeak1D, rule: KeyRule) -> bool
     ensures { (q : PeakT) → b ≡ bucket_by rule q → result ≡ is_same_bucket b (bucket_by rule p) }
 {
     match rule {
-        KeyRule::First(params) => keys::inner::is_bucket_of(b, p, params),
-        KeyRule::Second => true,
-        KeyRule::Identity => true,
+        KeyRule::First(params) => b.has(p, params),
+        KeyRule::Second | KeyRule::Identity => true,
     }
 }
 
@@ -54,19 +49,17 @@ fn group_end(sorted: &[u32], n: usize, i: usize, rule: KeyRule, params: StitchPa
 {
     let first = record::inner::peak_at(sorted, i);
     let bucket = bucket_by(first, rule);
-    let mut spans = matching::inner::spans_of(first);
-    let mut k = i + 1;
-    while k < n {
+    let mut spans = Spans::of_one(first);
+    for k in i + 1..n {
         if !is_of_bucket(bucket, record::inner::peak_at(sorted, k), rule) {
             return k;
         }
         if !matching::inner::joins_at(sorted, k, spans, params) {
             return k;
         }
-        spans = matching::inner::widened(spans, record::inner::peak_at(sorted, k));
-        k += 1;
+        spans = spans.widened(record::inner::peak_at(sorted, k));
     }
-    k
+    n
 }
 
 // What the merge of the peaks from place i to before `end` keeps of them.
@@ -74,11 +67,9 @@ fn gather_part(sorted: &[u32], i: usize, end: usize) -> Merging
     requires { (i < end) × (end * size ≤ length sorted.now) }
     ensures { (ps : List PeakT) (order : List ℕ) → end ≤ length order → Gathered ps sorted.now order → Holds result (peaks_at ps (part order i end)) }
 {
-    let mut m = merging::inner::start(record::inner::peak_at(sorted, i));
-    let mut k = i + 1;
-    while k < end {
-        m = merging::inner::join(m, record::inner::peak_at(sorted, k));
-        k += 1;
+    let mut m = Merging::start(record::inner::peak_at(sorted, i));
+    for k in i + 1..end {
+        m = m.join(record::inner::peak_at(sorted, k));
     }
     m
 }
@@ -88,19 +79,16 @@ fn put_merged(merged: &mut [u32], k: usize, m: Merging)
     requires { k * size + size ≤ length merged.old }
     ensures { (ps : List PeakT) → Holds m ps → merged.new ≡ with_peak merged.old k (mergedPeak ps) }
 {
-    record::inner::put_peak(merged, k, merging::inner::finish(m));
+    record::inner::put_peak(merged, k, m.finish());
 }
 
-// Writes a group's number to the places of its members, which `order` has from i to before `end`.
-fn put_number(order: &[u32], i: usize, end: usize, number: u32, column: &mut [u32])
-    requires { (i ≤ end) × (end ≤ length order.now) × Columned column.old order.now }
-    ensures { column.new ≡ numbered number (part order.now i end) column.old }
+// Writes a group's number to the places of its members.
+fn put_number(places: &[u32], number: u32, column: &mut [u32])
+    requires { Columned column.old places.now }
+    ensures { column.new ≡ numbered number places.now column.old }
 {
-    let mut k = i;
-    while k < end {
-        let place = order[k] as usize;
-        column[place] = number;
-        k += 1;
+    for &p in places {
+        column[p as usize] = number;
     }
 }
 
@@ -122,9 +110,10 @@ pub fn put_groups(
     let n = order.len();
     let mut number = 0usize;
     let mut i = 0usize;
+    // a step goes over a whole group, whose end is found on the way: no range or iterator has it beforehand
     while i < n {
         let end = group_end(sorted, n, i, rule, params);
-        put_number(order, i, end, number as u32, column);
+        put_number(&order[i..end], number as u32, column);
         put_merged(merged, number, gather_part(sorted, i, end));
         number += 1;
         i = end;

@@ -1,2 +1,4 @@
 -- The definitions that the contracts of `hexlines` cite.
 pub mod Lines
+pub mod Judges
+pub mod Parts

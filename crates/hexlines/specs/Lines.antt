@@ -1,59 +1,70 @@
 -- Lines of hexadecimal words, read a byte at a time, and the count of those that differ from what they should say.
-use Rattle.std.specs.Prelude.{ℕ, ◌+◌, ◌-◌, ◌*◌, ◌%◌, ◌^◌, Bool, true, false, cond, ◌&&◌, List, [], ◌∷◌, ◌++◌, length, take, ◌==◌, nat_le, nat_lt}
-use Rattle.hexlines.specs.declared.Reading.{Reading}
-use Rattle.hexlines.specs.declared.Tally.{Tally}
+use Rattle.std.specs.Prelude.{ℕ, ◌+◌, ◌-◌, ◌*◌, ◌%◌, ◌^◌, Bool, true, false, cond, ◌&&◌, List, [], ◌∷◌, ◌++◌, length, ◌==◌, nat_le, nat_lt, Option, Some, None}
+use Rattle.hexlines.specs.declared.replay.Tally.{Tally}
+use Rattle.hexlines.specs.declared.Stage.{Stage}
+use Rattle.hexlines.specs.declared.Stage.TheVariants.{Words, PassedOver, Ended}
 
 -- ---- a line
 
--- What the bytes of a line say so far: its whole words, the value of the word that is being read, whether one is, whether the line is
--- passed over, and whether it has ended.
+-- What the bytes of a line say so far: its whole words, the word that is being read, where one is, and whether the line goes on, is
+-- passed over or has ended.
 pub record Line : Type 0 where
   pub words : List ℕ
-  pub value : ℕ
-  pub reading : Bool
-  pub passed : Bool
-  pub ended : Bool
+  pub word : Option ℕ
+  pub stage : Stage
+
+-- a line, and how many words it has room for
+pub record LineIn : Type 0 where
+  pub line : Line
+  pub room : ℕ
 
 -- before the first byte
 abbrev pub no_line : Line
-no_line = record { words = []; value = 0; reading = false; passed = false; ended = false }
+no_line = record { words = []; word = None; stage = Words }
 
-abbrev pub at_start : Reading
-at_start = record { words = 0; value = 0; «open» = false; passed = false; ended = false }
+unfoldable pub has_ended : Line → Bool
+has_ended l = elim l.stage [ Words ↦ false | PassedOver ↦ false | Ended ↦ true ]
 
--- a reading, whose words stand at the front of a list
-abbrev pub line_of : Reading → List ℕ → Line
-line_of s list = record { words = take s.words list; value = s.value; reading = s.«open»; passed = s.passed; ended = s.ended }
+unfoldable pub is_passed : Line → Bool
+is_passed l = elim l.stage [ Words ↦ false | PassedOver ↦ true | Ended ↦ false ]
 
--- the value of a hexadecimal digit, 0 to 9 or a to f, and 16 for any other byte
-unfoldable pub digit_of : ℕ → ℕ
-digit_of b = cond (nat_lt b 48) 16 (cond (nat_le b 57) (b - 48) (cond (nat_lt b 97) 16 (cond (nat_le b 102) (b - 87) 16)))
+-- the value of a hexadecimal digit, 0 to 9 or a to f
+unfoldable pub digit_of : ℕ → Option ℕ
+digit_of b =
+    cond (nat_le 48 b && nat_le b 57) (Some (b - 48))
+    (cond (nat_le 97 b && nat_le b 102) (Some (b - 87))
+    None)
 
--- The word that is being read has ended: it stands behind the others, and is dropped where there is no room.
-unfoldable pub closed_by : ℕ → Bool → Line → Line
-closed_by room end l =
-    record {
-      words = cond (l.reading && nat_lt (length l.words) room) (l.words ++ (l.value ∷ [])) l.words;
-      value = 0;
-      reading = false;
-      passed = l.passed;
-      ended = end;
-    }
+-- words, with one more behind them, which is dropped where there is no room
+unfoldable pub with_word : ℕ → List ℕ → Option ℕ → List ℕ
+with_word room ws None = ws
+with_word room ws (Some w) = cond (nat_lt (length ws) room) (ws ++ (w ∷ [])) ws
 
--- One byte more of a line that has not ended. A line feed ends it; a '#' before the end of its first word has it passed over; digits
--- make a word, of which the last eight count; any other byte ends a word.
+-- The word that is being read has ended.
+unfoldable pub closed_by : ℕ → Stage → Line → Line
+closed_by room stage l = record { words = with_word room l.words l.word; word = None; stage = stage }
+
+-- a word with one digit more, of which the last eight count
+abbrev pub with_digit : Option ℕ → ℕ → ℕ
+with_digit None d = d
+with_digit (Some w) d = w % 0x1000_0000 * 16 + d
+
+-- a digit makes a word, any other byte ends one
+abbrev pub typed : ℕ → Line → Option ℕ → Line
+typed room l (Some d) = record { words = l.words; word = Some (with_digit l.word d); stage = Words }
+typed room l None = closed_by room Words l
+
+-- One byte more of a line that has not ended. A line feed ends it; a '#' before the end of its first word has it passed over.
 unfoldable pub next_in : ℕ → Line → ℕ → Line
 next_in room l b =
-    cond (b == 10) (closed_by room true l)
-    (cond l.passed l
-    (cond (b == 35 && length l.words == 0) (record { words = []; value = 0; reading = false; passed = true; ended = false })
-    (cond (nat_lt (digit_of b) 16)
-    (record { words = l.words; value = l.value % 0x1000_0000 * 16 + digit_of b; reading = true; passed = false; ended = false })
-    (closed_by room false l))))
+    cond (b == 10) (closed_by room Ended l)
+    (cond (is_passed l) l
+    (cond (b == 35 && length l.words == 0) (record { words = []; word = None; stage = PassedOver })
+    (typed room l (digit_of b))))
 
 -- One byte more, with room for so many words. The byte after a line's end is the first of the next one.
 unfoldable pub fed : ℕ → Line → ℕ → Line
-fed room l b = next_in room (cond l.ended no_line l) b
+fed room l b = next_in room (cond (has_ended l) no_line l) b
 
 -- ---- the count
 
@@ -63,12 +74,21 @@ counting t [] agrees = t
 counting t (w ∷ ws) agrees = record { lines = (t.lines + 1) % 2 ^ 64; differ = cond agrees t.differ ((t.differ + 1) % 2 ^ 64) }
 
 -- what is read and what is counted
-pub record Replay : Type 0 where
+pub record Replayed : Type 0 where
   pub line : Line
   pub tally : Tally
 
+-- the same, and how many words a line has room for
+pub record ReplayedIn : Type 0 where
+  pub so_far : Replayed
+  pub room : ℕ
+
+-- before the first byte
+abbrev pub at_start : Replayed
+at_start = record { line = no_line; tally = record { lines = 0; differ = 0 } }
+
 -- one byte more, where each line that has ended agrees or not
-unfoldable pub replayed : (List ℕ → Bool) → ℕ → Replay → ℕ → Replay
+unfoldable pub replayed : (List ℕ → Bool) → ℕ → Replayed → ℕ → Replayed
 replayed agrees room r b =
     let l = fed room r.line b in
-    record { line = l; tally = cond l.ended (counting r.tally l.words (agrees l.words)) r.tally }
+    record { line = l; tally = cond (has_ended l) (counting r.tally l.words (agrees l.words)) r.tally }

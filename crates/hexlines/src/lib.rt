@@ -2,155 +2,134 @@
 // ended by a line feed. A line that starts with '#' has no words.
 #![tactic(auto)]
 
-ghost use Rattle.std.specs.Prelude.{◌≡◌, ◌<◌, ◌≤◌, [], ◌∷◌, ◌++◌, length, take, if◌then◌else◌, nat_lt};
-ghost use Rattle.hexlines.specs.Lines.{at_start, line_of, digit_of, closed_by, next_in, fed, counting};
+pub mod parts;
+pub mod replay;
 
-// What has been read of a line: its whole words, the word that is being read and how many digits it has, and whether the
-// line is passed over. After its last byte the line has ended.
-#[derive(Clone, Copy)]
-pub struct Reading {
-    pub words: usize,
-    pub value: u32,
-    pub open: bool,
-    pub passed: bool,
-    pub ended: bool,
+ghost use Rattle.std.specs.Prelude.{◌≡◌, ◌<◌, ◌≤◌, length, take, IfSome};
+ghost use Rattle.hexlines.specs.Lines.{LineIn, no_line, has_ended, digit_of, with_digit, closed_by, next_in, fed};
+
+use std::marker::Model;
+
+// Whether a line goes on, is passed over, or has ended.
+#[derive(Clone, Copy, Debug, PartialEq, Eq)]
+pub enum Stage {
+    Words,
+    PassedOver,
+    Ended,
 }
 
-pub fn start() -> Reading
-    ensures { result ≡ at_start }
-{
-    Reading {
-        words: 0,
-        value: 0,
-        open: false,
-        passed: false,
-        ended: false,
-    }
+// What has been read of a line: its whole words, at the front of a lent list, the word that is being read, and how the line stands.
+#[derive(Drop)]
+pub struct Reading<'a> {
+    words: &'a mut [u32],
+    count: usize,
+    word: Option<u32>,
+    stage: Stage,
 }
 
-// The value of a hexadecimal digit, and 16 for any other byte.
-fn digit(b: u8) -> u8
-    ensures { result ≡ digit_of b }
-{
-    if b < 48 {
-        return 16;
-    }
-    if b <= 57 {
-        return b - 48;
-    }
-    if b < 97 {
-        return 16;
-    }
-    if b <= 102 { b - 87 } else { 16 }
+impl<'a> Model for Reading<'a> {
+    ghost Value = { LineIn };
+
+    ghost view = { λ r. record { line = record { words = take r.count r.words.now; word = r.word; stage = r.stage }; room = length r.words.now } };
+
+    ghost invariant = { λ r. r.count ≤ length r.words.now };
 }
 
-// The word at the end of the line so far; one past the line's room is dropped.
-fn put(line: &mut [u32], words: usize, value: u32) -> usize
-    requires { words ≤ length line.old }
-    ensures room { result ≤ length line.old }
-    ensures words { take result line.new ≡ (if nat_lt words (length line.old) then take words line.old ++ (value ∷ []) else take words line.old) }
+// The value of a hexadecimal digit.
+#[tactic(auto, unfolding(crate::specs::Lines::digit_of))]
+fn digit(b: u8) -> Option<u8>
+    ensures value { result ≡ digit_of b }
+    ensures low { IfSome result (λ d. d < 16) }
 {
-    if words < line.len() {
-        line[words] = value;
-        return words + 1;
-    }
-    words
-}
-
-fn closed(line: &mut [u32], s: Reading, ended: bool) -> Reading
-    requires { s.words ≤ length line.old }
-    ensures room { result.words ≤ length line.old }
-    ensures read { line_of result line.new ≡ closed_by (length line.old) ended (line_of s line.old) }
-{
-    let words = s.words;
-    let value = s.value;
-    if s.open {
-        let more = put(line, words, value);
-        return Reading {
-            words: more,
-            value: 0,
-            open: false,
-            passed: s.passed,
-            ended,
-        };
-    }
-    Reading {
-        words,
-        value: 0,
-        open: false,
-        passed: s.passed,
-        ended,
+    match b {
+        b'0'..=b'9' => Some(b - b'0'),
+        b'a'..=b'f' => Some(b - b'a' + 10),
+        _ => None,
     }
 }
 
-fn within(line: &mut [u32], s: Reading, b: u8) -> Reading
-    requires { s.words ≤ length line.old }
-    ensures room { result.words ≤ length line.old }
-    ensures read { line_of result line.new ≡ next_in (length line.old) (line_of s line.old) b }
+// A word with one digit more, of which the last eight count.
+fn with_digit(word: Option<u32>, d: u8) -> u32
+    requires { d < 16 }
+    ensures { result ≡ with_digit word d }
 {
-    if b == 10 {
-        return closed(line, s, true);
-    }
-    if s.passed {
-        return s;
-    }
-    let words = s.words;
-    if (b == 35) & (words == 0) {
-        return Reading {
-            words: 0,
-            value: 0,
-            open: false,
-            passed: true,
-            ended: false,
-        };
-    }
-    let d = digit(b);
-    if d < 16 {
-        let value = s.value % 0x1000_0000 * 16 + (d as u32);
-        return Reading {
+    word.unwrap_or(0) % 0x1000_0000 * 16 + d as u32
+}
+
+impl<'a> Reading<'a> {
+    // Nothing has been read yet; a line has room for as many words as the list is long.
+    pub fn new(words: &'a mut [u32]) -> Reading<'a>
+        ensures line { result.line ≡ no_line }
+        ensures room { result.room ≡ length words.old }
+    {
+        Reading {
             words,
-            value,
-            open: true,
-            passed: false,
-            ended: false,
-        };
+            count: 0,
+            word: None,
+            stage: Stage::Words,
+        }
     }
-    closed(line, s, false)
-}
 
-// One byte more, the words at the front of `line`. The byte after a line's end starts the next line.
-pub fn feed(line: &mut [u32], s: Reading, b: u8) -> Reading
-    requires { s.words ≤ length line.old }
-    ensures room { result.words ≤ length line.old }
-    ensures read { line_of result line.new ≡ fed (length line.old) (line_of s line.old) b }
-{
-    if s.ended {
-        return within(line, start(), b);
+    // The whole words.
+    pub fn words(&self) -> &[u32]
+        ensures { result.now ≡ self.now.line.words }
+    {
+        &self.words[..self.count]
     }
-    within(line, s, b)
-}
 
-// How many lines with words there were, and how many of them differ from what they should say.
-#[derive(Clone, Copy)]
-pub struct Tally {
-    pub lines: u64,
-    pub differ: u64,
-}
+    #[tactic(auto, unfolding(crate::specs::Lines::has_ended))]
+    pub fn has_ended(&self) -> bool
+        ensures { result ≡ has_ended self.now.line }
+    {
+        self.stage == Stage::Ended
+    }
 
-// Counts a line that has ended, if it has words.
-pub fn counted(t: Tally, words: &[u32], agrees: bool) -> Tally
-    ensures { result ≡ counting t words.now agrees }
-{
-    if words.len() == 0 {
-        return t;
+    // The word that is being read has ended: it stands behind the others, and is dropped where there is no room.
+    #[tactic(auto, unfolding(crate::specs::Lines::closed_by, crate::specs::Lines::with_word))]
+    fn close(&mut self, stage: Stage)
+        ensures line { self.new.line ≡ closed_by self.old.room stage self.old.line }
+        ensures room { self.new.room ≡ self.old.room }
+    {
+        if let Some(word) = self.word {
+            if self.count < self.words.len() {
+                self.words[self.count] = word;
+                self.count += 1;
+            }
+        }
+        self.word = None;
+        self.stage = stage;
     }
-    let lines = std::num::wrapping_add_u64(t.lines, 1);
-    if agrees {
-        return Tally {
-            lines,
-            differ: t.differ,
-        };
+
+    // One byte more of a line that has not ended.
+    #[tactic(auto, unfolding(crate::specs::Lines::next_in, crate::specs::Lines::is_passed), using(crate::proofs::Laws::length_taken))]
+    fn next(&mut self, b: u8)
+        ensures line { self.new.line ≡ next_in self.old.room self.old.line b }
+        ensures room { self.new.room ≡ self.old.room }
+    {
+        if b == b'\n' {
+            self.close(Stage::Ended);
+        } else if self.stage == Stage::PassedOver {} else if b == b'#' && self.count == 0 {
+            self.word = None;
+            self.stage = Stage::PassedOver;
+        } else if let Some(d) = digit(b) {
+            self.word = Some(with_digit(self.word, d));
+            self.stage = Stage::Words;
+        } else {
+            self.close(Stage::Words);
+        }
     }
-    let differ = std::num::wrapping_add_u64(t.differ, 1);
-    Tally { lines, differ }
+
+    // One byte more. The byte after a line's end is the first of the next line.
+    #[tactic(auto, unfolding(crate::specs::Lines::fed, crate::specs::Lines::has_ended))]
+    pub fn feed(&mut self, b: u8)
+        ensures line { self.new.line ≡ fed self.old.room self.old.line b }
+        ensures room { self.new.room ≡ self.old.room }
+    {
+        if self.stage == Stage::Ended {
+            self.count = 0;
+            self.word = None;
+            self.stage = Stage::Words;
+        }
+        self.next(b);
+    }
 }

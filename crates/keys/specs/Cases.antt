@@ -5,7 +5,7 @@ use Rattle.digits.specs.Sorted.{lex_lt}
 use Rattle.matching.specs.Matching.{group_of}
 use Rattle.matching.specs.Cases.{peak, asked, a, b}
 use Rattle.keys.specs.declared.KeyRule.TheVariants.{First, Second, Identity}
-use Rattle.keys.specs.Keys.{bucket_of, is_same_bucket, key_of, key_table}
+use Rattle.keys.specs.Keys.{group_there, group_number, bucket_of, is_same_bucket, key_of, key_table}
 
 -- ---- buckets: peaks of group 7 at a row and a scan
 
@@ -40,11 +40,11 @@ each-by-itself = refl
 
 -- the keys of two peaks in the first pass, of the first one in the second, and by identity alone
 pub first-keys : key_table (First (asked 2 10)) (a ∷ b ∷ []) ≡ 1 ∷ 7 ∷ 2 ∷ 33 ∷ 20 ∷ 0 ∷ 100 ∷ 1 ∷ 1 ∷ 7 ∷ 2 ∷ 34 ∷ 22 ∷ 5 ∷ 102 ∷ 2 ∷ []
-unfolding key_table key_of bucket_of group_of
+unfolding key_table key_of group_there group_number bucket_of group_of
 first-keys = refl
 
 pub second_key : key_of Second b ≡ 1 ∷ 7 ∷ 102 ∷ 22 ∷ 5 ∷ 2 ∷ []
-unfolding key_of group_of
+unfolding key_of group_there group_number group_of
 second_key = refl
 
 pub identities : key_table Identity (a ∷ b ∷ []) ≡ 1 ∷ 2 ∷ []
@@ -61,7 +61,7 @@ pub in-second :
     ∷ lex_lt (key_of Second (peak 100 0 9 1 7 20 15 25 1)) (key_of Second (peak 100 0 8 1 7 20 14 26 2))
     ∷ []
     ≡ true ∷ true ∷ true ∷ true ∷ []
-unfolding lex_lt key_of group_of
+unfolding lex_lt key_of group_there group_number group_of
 in-second = refl
 
 -- In the first pass, within one bucket, in this order: the lower scan first, though its first frame and its row are the higher ones; of
@@ -73,5 +73,5 @@ pub in-first :
     ∷ lex_lt (key_of (First (asked 2 10)) (peak 100 0 9 1 7 20 15 25 1)) (key_of (First (asked 2 10)) (peak 100 0 8 1 7 20 14 26 2))
     ∷ []
     ≡ true ∷ true ∷ true ∷ true ∷ []
-unfolding lex_lt key_of bucket_of group_of
+unfolding lex_lt key_of group_there group_number bucket_of group_of
 in-first = refl

@@ -5,7 +5,8 @@ pub mod inner;
 
 use matching::StitchParams;
 
-// By which key: that of the first pass, with the parameters, that of the second, which looks at none, or the identity alone.
+// By which key: that of the first pass, with the parameters, that of the second, which looks at none, or the identity alone. An enum and
+// not a trait: what is said of passes and orders is said of every rule, and names it.
 #[derive(Clone, Copy)]
 pub enum KeyRule {
     First(StitchParams),

@@ -11,14 +11,19 @@ use lib.Seq.{drop-drop, take_all}
 use Rattle.refusal.proofs.Bools.{clash}
 use Rattle.limits.specs.Limits.{max_count, last_row}
 use Rattle.table.specs.Sizes.{max_number, max_fields}
-use Rattle.table.specs.Text.{comma, fields, comma_at, is_number, number_text, all_numbers, is_row, row_text, params_text, params_from, params_of}
-use Rattle.table.specs.declared.NumberText.{NumberText}
-use Rattle.table.specs.declared.RowText.{RowText}
+use Rattle.table.specs.Text.{comma, fields, comma_at, is_number, all_numbers, is_row, row_text, params_text, params_from, params_of}
+use Rattle.std.proofs.Common.{Some, None, Result, Ok, Err}
+use Rattle.std.specs.Result.{is_ok, is_err, IfOk}
 use Rattle.table.specs.declared.RowsSoFar.{RowsSoFar}
 use Rattle.table.specs.declared.Progress.{Progress}
 use Rattle.table.specs.Table.{is_next, opened, counted, verdict}
 use Rattle.table.proofs.Laws.{split-comma, split-none}
-use Rattle.linefault.specs.Faults.{limit_of, all_within, refuses, refused_at_end}
+use Rattle.linefault.specs.Faults.{limit_of, all_within, refuses}
+
+-- ---- results
+pub err_or-ok : {A E : Type 0} (r : Result A E) (P : A → Type 0) → is_err r ≡ true → (is_ok r ≡ false) × IfOk r P
+err_or-ok (Ok v) P h = clash true refl (sym h)
+err_or-ok (Err e) P h = (refl, tt)
 
 -- ---- a field
 
@@ -30,21 +35,6 @@ comma-le (b ∷ bs) = go (eqb b comma) (comma-le bs)
     go : (e : Bool) → comma_at bs ≤ length bs → cond e 0 (suc (comma_at bs)) ≤ suc (length bs)
     go true h = omega arith
     go false h = omega arith
-
--- what a number text tells of its field
-told : (b : Bool) (v w : ℕ) → cond b (NumberText.Number v) NumberText.Bad ≡ NumberText.Number w → b ≡ true
-told true v w e = refl
-told false v w e = let z : ◌≡◌ {A = ℕ} 0 1 = cc in absurd (omega arith)
-
-told-bad : (b : Bool) (v : ℕ) → cond b (NumberText.Number v) NumberText.Bad ≡ NumberText.Bad → b ≡ false
-told-bad false v e = refl
-told-bad true v e = let z : ◌≡◌ {A = ℕ} 0 1 = cc in absurd (omega arith)
-
-pub number-told : (limit : ℕ) (f : List ℕ) (w : ℕ) → number_text limit f ≡ NumberText.Number w → is_number limit f ≡ true
-number-told limit f w e = told (is_number limit f) _ w e
-
-pub number-bad : (limit : ℕ) (f : List ℕ) → number_text limit f ≡ NumberText.Bad → is_number limit f ≡ false
-number-bad limit f e = told-bad (is_number limit f) _ e
 
 -- ---- the field from a place to the next comma, and those behind it
 module _ (first : Bool) (k : ℕ) (line : List ℕ) (from to : ℕ) (h : from ≤ length line) (e : to ≡ from + comma_at (drop from line)) where
@@ -92,14 +82,14 @@ pub row-wide : (s : RowsSoFar) (line : List ℕ) → max_fields < length (fields
 unfolding is_row
 row-wide s line h = rw (lt-leb (length (fields line)) max_fields h) (go (all_numbers max_number (fields line)))
   where
-    go : (c : Bool) → refuses (counted s (cond (c && false) (RowText.Row (length (fields line))) RowText.Bad)) ≡ true
+    go : (c : Bool) → refuses (counted s (cond (c && false) (Some (length (fields line))) None)) ≡ true
     go true = refl
     go false = refl
 
 pub row_out : (s : RowsSoFar) (line : List ℕ) → is_next s (length (fields line)) ≡ false → refuses (counted s (row_text line)) ≡ true
 row_out s line b = go (is_row line)
   where
-    go : (c : Bool) → refuses (counted s (cond c (RowText.Row (length (fields line))) RowText.Bad)) ≡ true
+    go : (c : Bool) → refuses (counted s (cond c (Some (length (fields line))) None)) ≡ true
     go true = rw b
     go false = refl
 
@@ -108,7 +98,7 @@ unfolding is_row
 row-good s line a h b = let n = sym (rows_alike 1 (fields line)) ∙ a in rw (n, le-leb (length (fields line)) max_fields h, b)
 
 -- the parameters
-three : (a b c : Bool) (u v w : ℕ) → refuses (opened (params_text (cond a (NumberText.Number u) NumberText.Bad) (cond b (NumberText.Number v) NumberText.Bad) (cond c (NumberText.Number w) NumberText.Bad))) ≡ not (a && (b && (c && true)))
+three : (a b c : Bool) (u v w : ℕ) → refuses (opened (params_text (cond a (Some u) None) (cond b (Some v) None) (cond c (Some w) None))) ≡ not (a && (b && (c && true)))
 three true true true u v w = refl
 three true true false u v w = refl
 three true false c u v w = refl
@@ -193,17 +183,3 @@ at-start line = refl
 pub at_rows : (t : RowsSoFar) (line : List ℕ) → verdict (Progress.Rows t) line ≡ counted t (row_text line)
 unfolding verdict
 at_rows t line = refl
-
--- ---- the end of the input
-pub end-some : (s : Progress) (bytes : List ℕ) → 0 < length bytes → refused_at_end s bytes ≡ refuses (verdict s bytes)
-end-some s [] h = absurd (omega arith)
-end-some Progress.Start (b ∷ bs) h = refl
-end-some (Progress.Rows t) (b ∷ bs) h = refl
-
-pub end-start : (bytes : List ℕ) → length bytes ≡ 0 → refused_at_end Progress.Start bytes ≡ true
-end-start [] h = refl
-end-start (b ∷ bs) h = absurd (omega arith)
-
-pub end-rows : (t : RowsSoFar) (bytes : List ℕ) → length bytes ≡ 0 → refused_at_end (Progress.Rows t) bytes ≡ false
-end-rows t [] h = refl
-end-rows t (b ∷ bs) h = absurd (omega arith)

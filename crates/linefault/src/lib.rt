@@ -2,68 +2,76 @@
 // left open. What is printed is decided by `table` alone.
 #![tactic(auto)]
 
-ghost use Rattle.std.specs.Prelude.{◌≡◌, true, false, not, ◌≤◌, ◌<◌, ◌+◌, length, drop};
+ghost use Rattle.std.specs.Prelude.{◌≡◌, true, false, not, ◌≤◌, ◌<◌, ◌+◌, length, drop, is_ok, is_err, is_some, IfOk};
 ghost use Rattle.table.specs.Text.{fields, is_number, comma_at, row_text, params_of};
 ghost use Rattle.table.specs.Table.{opened, counted, verdict};
 ghost use Rattle.linefault.specs.Faults.{limit_of, all_within, refuses, refused_at_end};
 
-use table::{NumberText, Progress, RowsSoFar};
+use std::fmt;
+use table::{Progress, RowsSoFar};
 
-// What is wrong with a line.
-#[derive(Clone, Copy)]
-pub enum What {
-    Nothing,
+// What is wrong with a line, and where: in which field or with how many of them, and at which column, both counted from 1. A line
+// that is refused, but has none of the others, is unlike docs/INPUT.md.
+#[derive(Clone, Copy, Debug, PartialEq, Eq)]
+pub enum Fault {
+    Unlike,
     NoLine,
     NoEnd,
     BareLf,
     Blank,
-    OtherByte,
-    EmptyField,
-    Digits,
-    TooHigh,
-    NotThree,
-    ManyFields,
-    OtherCount,
+    OtherByte { column: usize, byte: u8 },
+    EmptyField { field: usize },
+    Digits { field: usize },
+    TooHigh { field: usize, limit: u32 },
+    NotThree { fields: usize },
+    ManyFields { fields: usize },
+    OtherCount { fields: usize, before: usize },
     ManyRows,
 }
 
-// What is wrong with a line, if anything, and where: in which field (or with how many of them) and at which column, both counted from 1,
-// and by which byte.
-#[derive(Clone, Copy)]
-pub struct Fault {
-    pub bad: bool,
-    pub what: What,
-    pub field: usize,
-    pub column: usize,
-    pub byte: u8,
+// A byte that is neither a digit nor a comma.
+fn write_byte<W: fmt::Write>(f: &mut fmt::Formatter<W>, byte: u8) -> fmt::Result {
+    match byte {
+        b'\r' => f.write_str("a CR that no LF follows"),
+        b'!'..=b'~' => write!(
+            f,
+            "byte {byte} ({}) is neither a digit nor a comma",
+            char::from(byte)
+        ),
+        _ => write!(f, "byte {byte} is neither a digit nor a comma"),
+    }
+}
+
+impl fmt::Display for Fault {
+    fn fmt<W: fmt::Write>(&self, f: &mut fmt::Formatter<W>) -> fmt::Result {
+        match *self {
+            Fault::Unlike => f.write_str("it is not as docs/INPUT.md has it"),
+            Fault::NoLine => f.write_str("there is no first line"),
+            Fault::NoEnd => write!(f, "it has no end within {NO_END} bytes"),
+            Fault::BareLf => f.write_str("it ends in LF alone, not in CR LF"),
+            Fault::Blank => f.write_str("it is blank"),
+            Fault::OtherByte { column, byte } => {
+                write!(f, "column {column}: ")?;
+                write_byte(f, byte)
+            }
+            Fault::EmptyField { field } => write!(f, "field {field} is empty"),
+            Fault::Digits { field } => write!(f, "field {field} has more than 8 digits"),
+            Fault::TooHigh { field, limit } => write!(f, "field {field} is above {limit}"),
+            Fault::NotThree { fields } => write!(
+                f,
+                "{fields} fields, not 3 (floor, least distance, least width)"
+            ),
+            Fault::ManyFields { fields } => write!(f, "{fields} fields, above 4096"),
+            Fault::OtherCount { fields, before } => {
+                write!(f, "{fields} fields, the rows before have {before}")
+            }
+            Fault::ManyRows => f.write_str("a row past 4194304"),
+        }
+    }
 }
 
 // The bytes after which a line without an end is refused.
 pub const NO_END: usize = 65536;
-
-fn none(field: usize) -> Fault
-    ensures { (result.bad ≡ false) × (result.field ≡ field) }
-{
-    Fault {
-        bad: false,
-        what: What::Nothing,
-        field,
-        column: 0,
-        byte: 0,
-    }
-}
-
-fn some(what: What, field: usize, column: usize, byte: u8) -> Fault
-    ensures { result.bad ≡ true }
-{
-    Fault {
-        bad: true,
-        what,
-        field,
-        column,
-        byte,
-    }
-}
 
 // The place of the first comma from a place on, or the length.
 fn comma_from(line: &[u8], from: usize) -> usize
@@ -72,21 +80,6 @@ fn comma_from(line: &[u8], from: usize) -> usize
     ensures upper_bound { result ≤ length line.now }
 {
     from + table::comma_at(&line[from..])
-}
-
-// The place of the first byte that is no digit, or the length.
-fn other_at(field: &[u8]) -> usize
-    ensures { result ≤ length field.now }
-{
-    let mut i = 0usize;
-    while i < field.len() {
-        let b = field[i];
-        if (b < 48) | (57 < b) {
-            return i;
-        }
-        i += 1;
-    }
-    i
 }
 
 // The highest number of a field: that of a reading or of the floor, or that of least distance and least width.
@@ -101,167 +94,143 @@ pub fn limit_of(first: bool, field: usize) -> u32
 }
 
 // What is wrong with a field that is no number to its limit, and starts at a place.
-fn bad_field(text: &[u8], at: usize, field: usize) -> Fault
+fn bad_field(text: &[u8], at: usize, field: usize, limit: u32) -> Fault
     requires { at + length text.now < 0x1_0000_0000_0000_0000 }
-    ensures { result.bad ≡ true }
 {
-    if text.len() == 0 {
-        return some(What::EmptyField, field, at, 0);
+    if text.is_empty() {
+        return Fault::EmptyField { field };
     }
-    let i = other_at(text);
-    if i < text.len() {
-        return some(What::OtherByte, field, at + i + 1, text[i]);
+    if let Some(i) = text.iter().position(|b| !b.is_ascii_digit()) {
+        return Fault::OtherByte {
+            column: at + i + 1,
+            byte: text[i],
+        };
     }
-    if 8 < text.len() {
-        return some(What::Digits, field, at, 0);
+    if text.len() > 8 {
+        return Fault::Digits { field };
     }
-    some(What::TooHigh, field, at, 0)
+    Fault::TooHigh { field, limit }
 }
 
-// What is wrong with a field, if anything.
-fn field_fault(text: &[u8], at: usize, first: bool, field: usize) -> Fault
+// Whether a field is a number to its limit.
+fn check_field(text: &[u8], at: usize, first: bool, field: usize) -> Result<(), Fault>
     requires { at + length text.now < 0x1_0000_0000_0000_0000 }
-    ensures { result.bad ≡ not (is_number (limit_of first field) text.now) }
+    ensures { is_ok result ≡ is_number (limit_of first field) text.now }
 {
-    let number = table::number(text, limit_of(first, field));
-    match number {
-        NumberText::Number(_) => none(field),
-        NumberText::Bad => bad_field(text, at, field),
+    let limit = limit_of(first, field);
+    match table::number(text, limit) {
+        Some(_) => Ok(()),
+        None => Err(bad_field(text, at, field, limit)),
     }
 }
 
-// What is wrong with the first bad field of a line, or how many fields it has.
-fn fields_fault(line: &[u8], first: bool) -> Fault
-    ensures bad_value { result.bad ≡ not (all_within first 1 (fields line.now)) }
-    ensures field_value { result.bad ≡ false → result.field ≡ length (fields line.now) }
+// How many fields a line has, or what is wrong with the first bad one. A `loop`, since it steps from comma to comma.
+fn count_fields(line: &[u8], first: bool) -> Result<usize, Fault>
+    ensures good { is_ok result ≡ all_within first 1 (fields line.now) }
+    ensures count { IfOk result (λ n. n ≡ length (fields line.now)) }
 {
     let mut from = 0usize;
     let mut field = 1usize;
     loop {
         let to = comma_from(line, from);
-        let f = field_fault(&line[from..to], from, first, field);
-        if f.bad {
-            return f;
-        }
+        check_field(&line[from..to], from, first, field)?;
         if to == line.len() {
-            return none(field);
+            return Ok(field);
         }
         from = to + 1;
         field += 1;
     }
 }
 
-fn params_fault(line: &[u8]) -> Fault
-    ensures { result.bad ≡ refuses (opened (params_of line.now)) }
+fn check_params(line: &[u8]) -> Result<(), Fault>
+    ensures { is_err result ≡ refuses (opened (params_of line.now)) }
 {
-    let f = fields_fault(line, true);
-    if f.bad {
-        return f;
+    let fields = count_fields(line, true)?;
+    if fields != 3 {
+        return Err(Fault::NotThree { fields });
     }
-    if f.field == 3 {
-        return f;
-    }
-    some(What::NotThree, f.field, 1, 0)
+    Ok(())
 }
 
-fn row_fault(s: RowsSoFar, line: &[u8]) -> Fault
-    ensures { result.bad ≡ refuses (counted s (row_text line.now)) }
+fn check_row(s: RowsSoFar, line: &[u8]) -> Result<(), Fault>
+    ensures { is_err result ≡ refuses (counted s (row_text line.now)) }
 {
-    let f = fields_fault(line, false);
-    if f.bad {
-        return f;
+    let fields = count_fields(line, false)?;
+    if fields > table::MAX_FIELDS {
+        return Err(Fault::ManyFields { fields });
     }
-    if table::MAX_FIELDS < f.field {
-        return some(What::ManyFields, f.field, 1, 0);
+    if (s.count != 0) & (fields != s.count) {
+        return Err(Fault::OtherCount {
+            fields,
+            before: s.count,
+        });
     }
-    if (s.count != 0) & (f.field != s.count) {
-        return some(What::OtherCount, f.field, 1, 0);
+    if s.rows > limits::LAST_ROW {
+        return Err(Fault::ManyRows);
     }
-    if limits::LAST_ROW < s.rows {
-        return some(What::ManyRows, f.field, 1, 0);
-    }
-    f
+    Ok(())
 }
 
 // What is wrong with a line, given without its CR LF.
-fn line_fault(s: Progress, line: &[u8]) -> Fault
-    ensures { result.bad ≡ refuses (verdict s line.now) }
+fn check_line(s: Progress, line: &[u8]) -> Result<(), Fault>
+    ensures { is_err result ≡ refuses (verdict s line.now) }
 {
-    if line.len() == 0 {
-        return some(What::Blank, 0, 1, 0);
+    if line.is_empty() {
+        return Err(Fault::Blank);
     }
     match s {
-        Progress::Start => params_fault(line),
-        Progress::Rows(t) => row_fault(t, line),
+        Progress::Start => check_params(line),
+        Progress::Rows(t) => check_row(t, line),
     }
 }
 
-// The place behind the last LF before a place, or 0.
-fn line_start(bytes: &[u8], end: usize) -> usize
-    requires { end ≤ length bytes.now }
-    ensures { result ≤ end }
+// The place behind the last LF, or 0.
+fn line_start(bytes: &[u8]) -> usize
+    ensures { result ≤ length bytes.now }
 {
-    let mut i = end;
-    while i > 0 {
-        if bytes[i - 1] == 10 {
-            return i;
-        }
-        i -= 1;
+    match bytes.iter().rposition(|b| *b == b'\n') {
+        Some(i) => i + 1,
+        None => 0,
     }
-    i
 }
 
-// What is wrong with a line that an LF ends, given with it.
-fn ended_fault(s: Progress, line: &[u8]) -> Fault
-    requires { 0 < length line.now }
-{
-    let n = line.len();
-    if n == 1 {
-        return some(What::BareLf, 0, 1, 0);
+// What is wrong with a line that an LF ends, given without the LF.
+fn check_ended(s: Progress, text: &[u8]) -> Result<(), Fault> {
+    match text.split_last() {
+        Some((b'\r', line)) => check_line(s, line),
+        _ => Err(Fault::BareLf),
     }
-    if line[n - 2] == 13 {
-        return line_fault(s, &line[..n - 2]);
-    }
-    some(What::BareLf, 0, n, 0)
 }
 
 // What is wrong with the last line of some bytes, where s has been accepted before it.
-fn found_fault(s: Progress, bytes: &[u8]) -> Fault {
-    let n = bytes.len();
-    if n == 0 {
-        return some(What::NoLine, 0, 1, 0);
+fn check_last(s: Progress, bytes: &[u8]) -> Result<(), Fault> {
+    let Some((&last, text)) = bytes.split_last() else {
+        return Err(Fault::NoLine);
+    };
+    if last == b'\n' {
+        return check_ended(s, &text[line_start(text)..]);
     }
-    if bytes[n - 1] == 10 {
-        let start = line_start(bytes, n - 1);
-        return ended_fault(s, &bytes[start..]);
+    let line = &bytes[line_start(bytes)..];
+    if line.len() >= NO_END {
+        return Err(Fault::NoEnd);
     }
-    let from = line_start(bytes, n);
-    if NO_END <= n - from {
-        return some(What::NoEnd, 0, 1, 0);
-    }
-    line_fault(s, &bytes[from..])
+    check_line(s, line)
 }
 
 // The same of a line that is refused.
-pub fn last_fault(s: Progress, bytes: &[u8]) -> Fault
-    ensures { result.bad ≡ true }
-{
-    let f = found_fault(s, bytes);
-    if f.bad {
-        return f;
-    }
-    some(What::Nothing, 0, 1, 0)
+pub fn last_fault(s: Progress, bytes: &[u8]) -> Fault {
+    check_last(s, bytes).err().unwrap_or(Fault::Unlike)
 }
 
 // What is wrong at the end of the input, if anything: with the bytes behind the last line that has an end, or in that there is no line.
-pub fn end_fault(s: Progress, bytes: &[u8]) -> Fault
-    ensures { result.bad ≡ refused_at_end s bytes.now }
+pub fn end_fault(s: Progress, bytes: &[u8]) -> Option<Fault>
+    ensures { is_some result ≡ refused_at_end s bytes.now }
 {
-    if 0 < bytes.len() {
-        return line_fault(s, bytes);
+    if !bytes.is_empty() {
+        return check_line(s, bytes).err();
     }
     match s {
-        Progress::Start => some(What::NoLine, 0, 1, 0),
-        Progress::Rows(_) => none(0),
+        Progress::Start => Some(Fault::NoLine),
+        Progress::Rows(_) => None,
     }
 }

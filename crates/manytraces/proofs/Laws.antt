@@ -2,11 +2,11 @@
 use mathlib.Core.Path.{◌≡◌, refl, sym, ap, ◌∙◌}
 use mathlib.Core.Bool.{Bool, true, false}
 use mathlib.Core.List.{List, ◌++◌}
-use Prim.Native.Nat.{ℕ, zero, suc, ◌≤◌, ◌<◌, ◌+◌, ◌-◌, ◌*◌, ◌/◌}
-use native.Mathlib.Nat.{suc-mul, le-div_iff_mul-le, div-lt_iff_lt-mul}
+use Prim.Native.Nat.{ℕ, zero, suc, ◌≤◌, ◌<◌, ◌+◌, ◌-◌, ◌*◌}
+use native.Mathlib.Nat.{suc-mul}
 use native.Mathlib.Omega.{arith}
-use borrow.Author.Tests.{eqb-true, eqb-false, ltb-true, ltb-false, leb-true, leb-false, le-leb, lt-leb}
-use lib.Dec.{eqb, ltb, leb}
+use borrow.Author.Tests.{eqb-true, eqb-false, ltb-true, ltb-false}
+use lib.Dec.{eqb, ltb}
 use lib.ListN.{length, get_or, take, drop, set, length-set, length-drop, take-append-drop}
 use lib.Seq.{get_or-set_same, get_or-set_other, get_or-drop, drop-set-lt, drop-drop, take-add}
 use lib.Ieee.{Float, nan}
@@ -80,20 +80,6 @@ module _ (w : ℕ → Window) (old : List ℕ) where
           rw (b, c, s, u) (p.here j (omega arith))
 
 -- ---- n lists of m places each
-
--- room for them, by division
-pub room-none : (n m room : ℕ) → m ≡ 0 → leb (n * m) room ≡ true
-room-none n m room e = let z : n * 0 ≡ 0 = omega arith in rw (e, z, le-leb 0 room (omega arith))
-
-pub room_by : (n m room : ℕ) → (m ≡ 0 → ⊥) → leb n (room / m) ≡ leb (n * m) room
-room_by n m room h = go (leb n (room / m)) refl
-  where
-    some : 0 < m
-    some = omega arith
-
-    go : (t : Bool) → leb n (room / m) ≡ t → t ≡ leb (n * m) room
-    go true t = sym (le-leb (n * m) room ((le-div_iff_mul-le some).0 (leb-true n (room / m) t)))
-    go false t = sym (lt-leb (n * m) room ((div-lt_iff_lt-mul some).0 (leb-false n (room / m) t)))
 
 -- each place is one of them
 pub place_in : (k n m f : ℕ) → k < n → f < m → k * m + f < n * m

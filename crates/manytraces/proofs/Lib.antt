@@ -1,4 +1,2 @@
 -- The proofs of what specs/ states, and what the proofs of functions cite.
-pub mod ManyTracesLaws
 pub mod Laws
-pub mod AnswerLaws

@@ -1,7 +1,8 @@
 -- The retention traces of many mobility peaks over one index.
-use Rattle.std.specs.Prelude.{◌≡◌, cond, ◌&&◌, List, [], ◌++◌, ℕ, zero, suc, ◌*◌, ◌/◌, ◌%◌, leb, eqb, length, drop, Float}
-use Rattle.std.proofs.Math.Option.{none, some}
-use Rattle.refusal.specs.Answers.{Says, answer_by}
+use Rattle.std.specs.Prelude.{◌≡◌, cond, ◌&&◌, List, [], ◌++◌, ℕ, zero, suc, ◌*◌, ◌/◌, ◌%◌, leb, eqb, length, drop, Float, Result}
+use Rattle.refusal.specs.declared.Refusal.{Refusal}
+use Rattle.refusal.specs.Answers.{answer_by}
+use Rattle.refusal.specs.Numbered.{says}
 use Rattle.limits.specs.Limits.{max_reading, max_count, max_list}
 use Rattle.record.specs.Record.{size, peak_at, all_sound}
 use Rattle.tof.specs.declared.TofScale.{TofScale}
@@ -12,8 +13,6 @@ use Rattle.frameindex.specs.IndexNumber.{index_number}
 use Rattle.windows.specs.Windows.{peak_window}
 use Rattle.traces.specs.Traces.{trace_of}
 use Rattle.manytraces.specs.declared.numbers.Rooms.{Rooms}
-use Rattle.manytraces.specs.declared.TracesAnswer.{TracesAnswer}
-use Rattle.manytraces.specs.declared.TracesAnswer.TheVariants.{Traces, Refused}
 
 -- the traces of the first n peaks of a list, one after another, each by the peak's TOF bounds and absolute scans
 unfoldable pub traces_of : Index → TofScale → ℕ → List ℕ → ℕ → List Float
@@ -57,11 +56,6 @@ many_asks c room =
 abbrev pub many_number : ℕ → Call → Rooms → ℕ
 many_number limit c room = index_number limit c.index (many_asks c room)
 
--- what an answer says: the count of the traces, or the number that applies
-abbrev pub traces_says : TracesAnswer → Says ℕ
-traces_says (Traces n) = record { number = 0; values = some n }
-traces_says (Refused n) = record { number = n; values = none }
-
 -- ---- what is left of a call, with readings to 2^32
 
 abbrev pub number_for : Call → List Float → List ℕ → ℕ
@@ -69,8 +63,8 @@ number_for c out windows = many_number max_reading c (record { out = length out;
 
 -- Accepted, with number 0: the traces of all peaks stand at the front, behind them what was there, and what the scratch holds before four
 -- words a peak is open. Refused: all is as it was.
-pub record Answered (c : Call) (out₀ : List Float) (windows₀ : List ℕ) (out : List Float) (windows : List ℕ) (answer : TracesAnswer) : Type 0 where
-  pub answered : traces_says answer ≡ answer_by (number_for c out₀ windows₀) (peaks_in c)
+pub record Answered (c : Call) (out₀ : List Float) (windows₀ : List ℕ) (out : List Float) (windows : List ℕ) (answer : Result ℕ Refusal) : Type 0 where
+  pub answered : says answer ≡ answer_by (number_for c out₀ windows₀) (peaks_in c)
   pub sums : out ≡ cond (eqb (number_for c out₀ windows₀) 0) (traces_of c.index c.scale c.pad c.list (peaks_in c) ++ drop (sums_in c) out₀) out₀
   pub scratch :
       drop (cond (eqb (number_for c out₀ windows₀) 0) (4 * peaks_in c) 0) windows

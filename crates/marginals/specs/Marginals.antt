@@ -1,7 +1,7 @@
 -- Marginals of an index: a block of frames, bins and scans, summed by frame or by scan.
-use Rattle.std.specs.Prelude.{Bool, true, ◌&&◌, List, ℕ, ◌+◌, ◌-◌, leb, ltb, length, Float}
-use Rattle.std.proofs.Math.Option.{none, some}
-use Rattle.refusal.specs.Answers.{Says}
+use Rattle.std.specs.Prelude.{Bool, true, ◌&&◌, List, ℕ, ◌+◌, ◌-◌, leb, ltb, length, Float, Result}
+use Rattle.refusal.specs.declared.Refusal.{Refusal}
+use Rattle.refusal.specs.Numbered.{says}
 use Rattle.limits.specs.Limits.{max_reading, last_row, max_scan}
 use Rattle.frameindex.specs.declared.numbers.Further.{Further}
 use Rattle.frameindex.specs.FrameIndex.{Index, frames}
@@ -9,8 +9,6 @@ use Rattle.frameindex.specs.IndexNumber.{index_number, plainly, Front}
 use Rattle.framesums.specs.declared.inner.Window.{Window}
 use Rattle.framesums.specs.Sums.{frame_sums, scan_sums}
 use Rattle.marginals.specs.declared.inner.Block.{Block}
-use Rattle.marginals.specs.declared.MarginalAnswer.{MarginalAnswer}
-use Rattle.marginals.specs.declared.MarginalAnswer.TheVariants.{Filled, Refused}
 
 -- frames, bins and scans, ends included
 abbrev pub block_of : ℕ → ℕ → ℕ → ℕ → ℕ → ℕ → Block
@@ -53,15 +51,10 @@ marginal_asks ix b n room = plainly (sound_ranges (frames ix) b) (leb b.im_hi ma
 abbrev pub marginal_number : ℕ → Index → Block → ℕ → ℕ → ℕ
 marginal_number limit ix b n room = index_number limit ix (marginal_asks ix b n room)
 
--- what an answer says: the count of the sums, or the number that applies
-abbrev pub marginal_says : MarginalAnswer → Says ℕ
-marginal_says (Filled n) = record { number = 0; values = some n }
-marginal_says (Refused n) = record { number = n; values = none }
-
 -- ---- what is left of a call, with readings to 2^32
 
-abbrev pub RtAnswered : Index → Block → List Float → List Float → MarginalAnswer → Type 0
-RtAnswered ix b was is r = Front (marginal_number max_reading ix b (frames_in b) (length was)) (rt_marginal ix b) was is (marginal_says r)
+abbrev pub RtAnswered : Index → Block → List Float → List Float → Result ℕ Refusal → Type 0
+RtAnswered ix b was is r = Front (marginal_number max_reading ix b (frames_in b) (length was)) (rt_marginal ix b) was is (says r)
 
-abbrev pub ImAnswered : Index → Block → List Float → List Float → MarginalAnswer → Type 0
-ImAnswered ix b was is r = Front (marginal_number max_reading ix b (scans_in b) (length was)) (im_marginal ix b) was is (marginal_says r)
+abbrev pub ImAnswered : Index → Block → List Float → List Float → Result ℕ Refusal → Type 0
+ImAnswered ix b was is r = Front (marginal_number max_reading ix b (scans_in b) (length was)) (im_marginal ix b) was is (says r)

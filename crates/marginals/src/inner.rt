@@ -1,7 +1,12 @@
-// The number of a marginal, whose reading limit a caller gives.
-ghost use Rattle.std.specs.Prelude.{◌≡◌, ◌+◌, ◌-◌};
-ghost use Rattle.framesums.specs.Steps.{index_of};
-ghost use Rattle.marginals.specs.Marginals.{sound_ranges, marginal_number};
+// The check of a marginal, whose reading limit a caller gives.
+ghost use Rattle.std.specs.Prelude.{◌≡◌, ◌+◌, ◌-◌, IfOk, OnOk};
+ghost use Rattle.refusal.specs.Numbered.{number_in};
+ghost use Rattle.marginals.specs.Marginals.{sound_ranges, marginal_number, window_of, frames_in, scans_in};
+ghost use Rattle.marginals.specs.Steps.{Within};
+
+use frameindex::{CheckedIndex, FrameIndex};
+use framesums::inner::Window;
+use refusal::Refusal;
 
 // Frames, bins and scans, ends included.
 #[derive(Clone, Copy)]
@@ -14,47 +19,72 @@ pub struct Block {
     pub im_hi: u32,
 }
 
+impl Block {
+    // How many frames it has.
+    pub fn frames(self) -> usize
+        ensures { result ≡ frames_in self }
+    {
+        count(self.rt_lo, self.rt_hi)
+    }
+
+    // How many scans.
+    pub fn scans(self) -> usize
+        ensures { result ≡ scans_in self }
+    {
+        count(self.im_lo, self.im_hi)
+    }
+
+    // Its bins and scans.
+    pub fn window(self) -> Window
+        ensures { result ≡ window_of self }
+    {
+        Window {
+            bin_lo: self.bin_lo,
+            bin_hi: self.bin_hi,
+            scan_lo: self.im_lo,
+            scan_hi: self.im_hi,
+        }
+    }
+}
+
 // How many there are from lo to hi.
 pub fn count(lo: u32, hi: u32) -> usize
     ensures { result ≡ hi + 1 - lo }
 {
-    if hi < lo {
-        return 0;
-    }
-    (hi - lo) as usize + 1
+    (hi as usize + 1).saturating_sub(lo as usize)
 }
 
-// Whether no range is reversed or passes what it ranges over; `starts` is one more than the frames.
-fn sound_ranges(starts: usize, b: Block) -> bool
-    ensures { result ≡ sound_ranges (starts - 1) b }
+// Whether no range is reversed or passes what it ranges over; there are as many frames.
+fn sound_ranges(frames: usize, b: Block) -> bool
+    ensures { result ≡ sound_ranges frames b }
 {
     (b.rt_lo <= b.rt_hi)
-        & (b.rt_hi as usize + 1 < starts)
+        & ((b.rt_hi as usize) < frames)
         & (b.bin_lo <= b.bin_hi)
         & (b.bin_hi <= limits::LAST_ROW)
         & (b.im_lo <= b.im_hi)
 }
 
-// The lowest number that applies, or 0: for readings with patterns to `limit`, where n sums go to a list of `room` places.
-pub fn number(
+// The index as a checked one, or the lowest number that applies: for readings with patterns to `limit`, where n sums go to a list of
+// `room` places.
+pub fn check<'a>(
     limit: u32,
-    starts: &[u32],
-    bins: &[u32],
-    offsets: &[u32],
-    scans: &[u32],
-    readings: &[f32],
+    ix: &FrameIndex<'a>,
     b: Block,
     n: usize,
     room: usize,
-) -> u32
-    ensures { result ≡ marginal_number limit (index_of starts.now bins.now offsets.now scans.now readings.now) b n room }
+) -> Result<CheckedIndex<'a>, Refusal>
+    ensures number { number_in result ≡ marginal_number limit ix.now b n room }
+    ensures same { IfOk result (λ c. c ≡ ix.now) }
+    ensures within { OnOk result (Within ix.now b n room) }
 {
-    let seen = frameindex::inner::see(limit, starts, bins, offsets, scans, readings);
-    let further = frameindex::numbers::plain(
-        sound_ranges(starts.len(), b),
-        b.im_hi <= limits::MAX_SCAN,
-        n <= room,
-        true,
-    );
-    frameindex::numbers::number(seen, further)
+    ix.check(
+        limit,
+        frameindex::numbers::plain(
+            sound_ranges(ix.frames(), b),
+            b.im_hi <= limits::MAX_SCAN,
+            n <= room,
+            true,
+        ),
+    )
 }

@@ -1,5 +1,5 @@
 -- A group that lies within the limits with a peak holds no member whose row is too far from that peak's.
-use mathlib.Core.Path.{◌≡◌, refl}
+use mathlib.Core.Path.{◌≡◌, refl, sym, ap, ◌∙◌}
 use mathlib.Core.Bool.{Bool, true, false, ◌&&◌, ◌||◌}
 use mathlib.Core.List.{List, ◌∷◌, Memᴰ}
 use Prim.Native.Nat.{ℕ, ◌≤◌, ◌-◌}
@@ -49,3 +49,13 @@ join-tests params w last p ps h =
     let all = p ∷ last ∷ ps in
     rw (h.min_row, h.max_row, h.min_scan, h.max_scan)
     (last-first (same_group params last p) (rows_near params last p) (frames_overlap params last p) (scans_overlap params last p) (apexes_inside params last p) (within_limits params (row_span all) (scan_span all)) (rows-within params last p ps (scan_span all)))
+
+-- The answer r of the tests one after the other, of which the limits of the whole group come first, where w is s widened by the peak.
+pub joined : (params : StitchParams) (s w : Spans) (last p next : ImPeak1D) (fit r : Bool)
+    → ((q : ImPeak1D) (ps : List ImPeak1D) → Covers s (q ∷ ps) → Covers w (next ∷ (q ∷ ps))) → next ≡ p
+    → fit ≡ within_limits params (w.max_row - w.min_row) (w.max_scan - w.min_scan)
+    → r ≡ fit && (same_group params last p && frames_overlap params last p && scans_overlap params last p && apexes_inside params last p)
+    → (ps : List ImPeak1D) → Covers s (last ∷ ps) → r ≡ may_join params (last ∷ ps) p
+joined params s w last p next fit r wider same f e ps h =
+    let others : Bool = same_group params last p && frames_overlap params last p && scans_overlap params last p && apexes_inside params last p in
+    e ∙ ap (λ (t : Bool). t && others) f ∙ sym (join-tests params w last p ps (rw same at (wider last ps h)))

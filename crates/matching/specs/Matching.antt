@@ -1,5 +1,6 @@
 -- When two peaks may be joined.
-use Rattle.std.specs.Prelude.{Bool, not, cond, ◌&&◌, ◌||◌, ℕ, ◌+◌, ◌-◌, ◌^◌, min, max, leb, eqb, Float}
+use Rattle.std.specs.Prelude.{Bool, not, cond, ◌&&◌, ◌||◌, ℕ, ◌+◌, ◌-◌, ◌^◌, min, max, leb, eqb, nat_eq, if◌then◌else◌, Option, Some, None, Float}
+use Rattle.std.specs.Option.{option_eq}
 use Rattle.std.specs.Float.Ieee.{lt, le}
 use Rattle.limits.specs.Limits.{max_count}
 use Rattle.numeric.specs.Arith.{◌⊕◌, ◌⊖◌, ◌⊘◌, 𝟎, 𝟏, index_f}
@@ -7,7 +8,6 @@ use Rattle.numeric.specs.Numeric.{in_range, max_f}
 use Rattle.record.specs.Record.{has_group}
 use Rattle.record.specs.declared.ImPeak1D.{ImPeak1D}
 use Rattle.matching.specs.declared.StitchParams.{StitchParams}
-use Rattle.matching.specs.declared.inner.Group.{Group}
 
 -- ---- number 4: counts to 65,535, shares from 0 to 1
 
@@ -54,17 +54,13 @@ enough_common least least_share lo_a hi_a lo_b hi_b =
 unfoldable pub at_most : ℕ → ℕ → Bool
 at_most limit n = eqb limit 0 || leb n limit
 
--- The window group: whether it is there, and its number. That of a missing one is 0, whatever its word is, so that two are the same if
--- both are missing, or both are there and equal.
-unfoldable pub group_of : ImPeak1D → Group
-group_of p = record { there = cond (has_group p) 1 0; number = cond (has_group p) p.window_group 0 }
-
-abbrev pub is_same : Group → Group → Bool
-is_same x y = eqb x.there y.there && eqb x.number y.number
+-- the window group, where there is one
+unfoldable pub group_of : ImPeak1D → Option ℕ
+group_of p = if has_group p then Some p.window_group else None
 
 -- one window group, unless crossing is allowed
 unfoldable pub same_group : StitchParams → ImPeak1D → ImPeak1D → Bool
-same_group p a b = p.allow_cross_groups || is_same (group_of a) (group_of b)
+same_group p a b = p.allow_cross_groups || option_eq nat_eq (group_of a) (group_of b)
 
 -- rows no further apart than the row limit; a limit of 0 does not look at rows
 unfoldable pub rows_near : StitchParams → ImPeak1D → ImPeak1D → Bool

@@ -3,6 +3,9 @@
 
 pub mod inner;
 
+ghost use Rattle.std.specs.Prelude.{◌≡◌};
+ghost use Rattle.matching.specs.Matching.{sound_stitch};
+
 // The bit pattern of the highest share: 1.
 pub const MAX_SHARE: u32 = 0x3f80_0000;
 
@@ -21,4 +24,19 @@ pub struct StitchParams {
     pub min_im_overlap_scans: u32,
     pub im_jaccard_min: f32,
     pub require_mutual_apex_inside: bool,
+}
+
+impl StitchParams {
+    // Whether number 4 does not apply to the parameters.
+    #[tactic(auto, unfolding(crate::specs::Matching::sound_stitch))]
+    pub fn is_sound(self) -> bool
+        ensures { result ≡ sound_stitch self }
+    {
+        (self.min_overlap_frames <= limits::MAX_COUNT)
+            & (self.max_scan_delta <= limits::MAX_COUNT)
+            & numeric::in_range(self.jaccard_min, MAX_SHARE)
+            & (self.max_tof_row_delta <= limits::MAX_COUNT)
+            & (self.min_im_overlap_scans <= limits::MAX_COUNT)
+            & numeric::in_range(self.im_jaccard_min, MAX_SHARE)
+    }
 }

@@ -3,6 +3,9 @@ use mathlib.Core.Path.{◌≡◌, refl, ap}
 use mathlib.Core.Bool.{Bool, true, false, cond, ◌&&◌, ◌||◌}
 use mathlib.Core.List.{List, [], ◌∷◌, ◌++◌, append-nil, foldl-append}
 use lib.Ieee.{Float}
+use Rattle.std.specs.Prelude.{is_some, unwrap_or}
+use Rattle.std.specs.Bool.{then_some}
+use Rattle.std.specs.Option.{option_or}
 use Rattle.numeric.specs.Arith.{◌⊕◌, ◌⊘◌, 𝟎, 𝟏}
 use Rattle.numeric.specs.Numeric.{max_f}
 use Rattle.numeric.proofs.Laws.{and-true, and_assoc}
@@ -91,3 +94,27 @@ module _ (has : ImPeak1D → Bool) (p : ImPeak1D) where
 pub divided : (b : Bool) (x w : Float) → cond b (x ⊘ cond b w 𝟏) 𝟎 ≡ cond b (x ⊘ w) 𝟎
 divided true x w = refl
 divided false x w = refl
+
+-- ---- the mobility and the group, as values that may be missing
+pub some_then : {A : Type 0} (b : Bool) (x : A) → is_some (then_some b x) ≡ b
+some_then true x = refl
+some_then false x = refl
+
+pub unwrap_then : {A : Type 0} (b : Bool) (x none : A) → unwrap_or (then_some b x) none ≡ cond b x none
+unwrap_then true x none = refl
+unwrap_then false x none = refl
+
+pub then-chosen : {A : Type 0} (b : Bool) (x none : A) → then_some b (cond b x none) ≡ then_some b x
+then-chosen true x none = refl
+then-chosen false x none = refl
+
+pub or_then : (a b : Bool) (x y : Float) → option_or (then_some a x) (then_some b y) ≡ then_some (a || b) (cond a x (cond b y 𝟎))
+or_then true b x y = refl
+or_then false true x y = refl
+or_then false false x y = refl
+
+-- the first of none is none
+pub first-none : {A : Type 0} (none : A) (f : ImPeak1D → A) (ps : List ImPeak1D) → cond (is_any ps) (first_of none f ps) none ≡ first_of none f ps
+unfolding is_any first_of
+first-none none f [] = refl
+first-none none f (p ∷ ps) = refl

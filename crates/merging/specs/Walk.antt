@@ -1,5 +1,6 @@
 -- What the walk over a group keeps of the peaks so far.
 use Rattle.std.specs.Prelude.{◌≡◌, true, List}
+use Rattle.std.specs.Bool.{then_some}
 use Rattle.numeric.specs.Arith.{index_f}
 use Rattle.record.specs.Record.{has_sigma}
 use Rattle.record.specs.declared.ImPeak1D.{ImPeak1D}
@@ -49,10 +50,8 @@ state_of ps = record {
   heights = heights_of ps;
   sigma_weight = total_weight (having has_sigma ps);
   sigma = weighted_sum (λ p. p.scan_sigma) (having has_sigma ps);
-  any_mobility = any_mobility ps;
-  mobility = first_mobility ps;
-  one_group = one_group ps;
-  group = group_word ps;
+  mobility = then_some (any_mobility ps) (first_mobility ps);
+  group = then_some (one_group ps) (group_word ps);
   id = lowest_of (λ p. p.id) ps;
 }
 

@@ -1,6 +1,8 @@
 // A group is walked once, in its order: `start` with its first peak, `join` with each further one, and `finish`.
-ghost use Rattle.std.specs.Prelude.{◌≡◌, true, cond, List, [], ◌∷◌, ◌++◌, ◌≤◌, min, max};
+ghost use Rattle.std.specs.Prelude.{◌≡◌, Bool, true, cond, ◌&&◌, ℕ, List, [], ◌∷◌, ◌++◌, ◌≤◌, min, max};
+ghost use Rattle.std.specs.Bool.{then_some};
 ghost use Rattle.numeric.specs.Arith.{◌⊘◌};
+ghost use Rattle.record.specs.Record.{has_mobility};
 ghost use Rattle.record.specs.declared.ImPeak1D.{ImPeak1D};
 ghost use Rattle.peaklist.specs.Extremes.{is_any};
 ghost use Rattle.merging.specs.Merging.{weight, whole, width_of, flags_of, of_group, merged};
@@ -44,8 +46,7 @@ pub struct Heights {
 }
 
 // What is kept of the peaks of a group so far. The two sums for the scan sigma, of weights and of values times weights, are over
-// the peaks that have one. The mobility is that of the first peak that has one. `group` is the first peak's, and is looked at
-// where all the peaks are of one group.
+// the peaks that have one. The mobility is that of the first peak that has one, the group that of all the peaks, where they are of one.
 #[derive(Clone, Copy)]
 pub struct Merging {
     pub sums: Sums,
@@ -53,10 +54,8 @@ pub struct Merging {
     pub heights: Heights,
     pub sigma_weight: f32,
     pub sigma: f32,
-    pub any_mobility: bool,
-    pub mobility: f32,
-    pub one_group: bool,
-    pub group: u32,
+    pub mobility: Option<f32>,
+    pub group: Option<u32>,
     pub id: PeakId,
 }
 
@@ -74,12 +73,6 @@ fn word_if(there: bool, w: u32) -> u32
     if there { w } else { 0 }
 }
 
-fn least_id(a: PeakId, b: PeakId) -> PeakId
-    ensures { result ≡ min a b }
-{
-    if record::inner::id_lt(b, a) { b } else { a }
-}
-
 fn weight_of(p: ImPeak1D) -> f32
     ensures { result ≡ weight p }
 {
@@ -92,14 +85,30 @@ fn is_of_group(g: u32, p: ImPeak1D) -> bool
     (p.flags % 2 == 1) & (p.window_group == g)
 }
 
-// ---- the first peak
-
-// A sum starts at 0, and takes the first peak like any other: a minus zero becomes plus zero.
-fn start_sums(p: ImPeak1D) -> Sums
-    ensures { result ≡ sums_of (p ∷ []) }
+// A window group, if a peak is of it.
+fn of_group_too(group: Option<u32>, p: ImPeak1D) -> Option<u32>
+    ensures { (there : Bool) (g : ℕ) → group ≡ then_some there g → result ≡ then_some (there && of_group g p) g }
 {
-    join_sums(
-        Sums {
+    match group {
+        Some(g) if is_of_group(g, p) => Some(g),
+        _ => None,
+    }
+}
+
+fn mobility_of(p: ImPeak1D) -> Option<f32>
+    ensures { result ≡ then_some (has_mobility p) p.mobility }
+{
+    (p.flags / ImPeak1D::HAS_MOBILITY % 2 == 1).then_some(p.mobility)
+}
+
+// ---- what is kept: of the first peak, and with one more
+
+impl Sums {
+    // A sum starts at 0, and takes the first peak like any other: a minus zero becomes plus zero.
+    fn start(p: ImPeak1D) -> Sums
+        ensures { result ≡ sums_of (p ∷ []) }
+    {
+        let none = Sums {
             weight: 0.0,
             area: 0.0,
             tof_row: 0.0,
@@ -107,131 +116,161 @@ fn start_sums(p: ImPeak1D) -> Sums
             scan: 0.0,
             scan_abs: 0.0,
             subscan: 0.0,
-        },
-        p,
-    )
-}
+        };
+        none.join(p)
+    }
 
-fn start_bounds(p: ImPeak1D) -> Bounds
-    ensures { result ≡ bounds_of (p ∷ []) }
-{
-    Bounds {
-        tof_lo: p.tof_lo,
-        tof_hi: p.tof_hi,
-        rt_lo: p.rt_lo,
-        rt_hi: p.rt_hi,
-        frame_id_lo: p.frame_id_lo,
-        frame_id_hi: p.frame_id_hi,
-        left: p.left,
-        right: p.right,
-        left_abs: p.left_abs,
-        right_abs: p.right_abs,
+    fn join(self, p: ImPeak1D) -> Sums
+        ensures { (ps : List ImPeak1D) → self ≡ sums_of ps → result ≡ sums_of (ps ++ (p ∷ [])) }
+    {
+        let weight = weight_of(p);
+        Sums {
+            weight: self.weight + weight,
+            area: self.area + p.area_raw,
+            tof_row: self.tof_row + numeric::of_u32(p.tof_row) * weight,
+            tof_center: self.tof_center + numeric::of_u32(p.tof_center) * weight,
+            scan: self.scan + numeric::of_u32(p.scan) * weight,
+            scan_abs: self.scan_abs + numeric::of_u32(p.scan_abs) * weight,
+            subscan: self.subscan + p.subscan * weight,
+        }
     }
 }
 
-// The heights start at the lowest finite float.
-fn start_heights(p: ImPeak1D) -> Heights
-    ensures { result ≡ heights_of (p ∷ []) }
-{
-    let least = numeric::float_of(0xff7f_ffff);
-    join_heights(
-        Heights {
+impl Bounds {
+    fn start(p: ImPeak1D) -> Bounds
+        ensures { result ≡ bounds_of (p ∷ []) }
+    {
+        Bounds {
+            tof_lo: p.tof_lo,
+            tof_hi: p.tof_hi,
+            rt_lo: p.rt_lo,
+            rt_hi: p.rt_hi,
+            frame_id_lo: p.frame_id_lo,
+            frame_id_hi: p.frame_id_hi,
+            left: p.left,
+            right: p.right,
+            left_abs: p.left_abs,
+            right_abs: p.right_abs,
+        }
+    }
+
+    fn join(self, p: ImPeak1D) -> Bounds
+        ensures { (ps : List ImPeak1D) → is_any ps ≡ true → self ≡ bounds_of ps → result ≡ bounds_of (ps ++ (p ∷ [])) }
+    {
+        Bounds {
+            tof_lo: self.tof_lo.min(p.tof_lo),
+            tof_hi: self.tof_hi.max(p.tof_hi),
+            rt_lo: self.rt_lo.min(p.rt_lo),
+            rt_hi: self.rt_hi.max(p.rt_hi),
+            frame_id_lo: self.frame_id_lo.min(p.frame_id_lo),
+            frame_id_hi: self.frame_id_hi.max(p.frame_id_hi),
+            left: self.left.min(p.left),
+            right: self.right.max(p.right),
+            left_abs: self.left_abs.min(p.left_abs),
+            right_abs: self.right_abs.max(p.right_abs),
+        }
+    }
+}
+
+impl Heights {
+    // The heights start at the lowest finite float.
+    fn start(p: ImPeak1D) -> Heights
+        ensures { result ≡ heights_of (p ∷ []) }
+    {
+        let least = numeric::float_of(0xff7f_ffff);
+        let none = Heights {
             smoothed: least,
             raw: least,
             prominence: least,
-        },
-        p,
-    )
-}
+        };
+        none.join(p)
+    }
 
-pub fn start(p: ImPeak1D) -> Merging
-    ensures { Holds result (p ∷ []) }
-{
-    let sigma = p.flags / ImPeak1D::HAS_SIGMA % 2 == 1;
-    let mobility = p.flags / ImPeak1D::HAS_MOBILITY % 2 == 1;
-    let weight = weight_of(p);
-    Merging {
-        sums: start_sums(p),
-        bounds: start_bounds(p),
-        heights: start_heights(p),
-        sigma_weight: choose(sigma, 0.0 + weight, 0.0),
-        sigma: choose(sigma, 0.0 + p.scan_sigma * weight, 0.0),
-        any_mobility: mobility,
-        mobility: choose(mobility, p.mobility, 0.0),
-        one_group: is_of_group(p.window_group, p),
-        group: p.window_group,
-        id: p.id,
+    fn join(self, p: ImPeak1D) -> Heights
+        ensures { (ps : List ImPeak1D) → self ≡ heights_of ps → result ≡ heights_of (ps ++ (p ∷ [])) }
+    {
+        Heights {
+            smoothed: numeric::max(self.smoothed, p.apex_smoothed),
+            raw: numeric::max(self.raw, p.apex_raw),
+            prominence: numeric::max(self.prominence, p.prominence),
+        }
     }
 }
 
-// ---- a further peak
-
-fn join_sums(s: Sums, p: ImPeak1D) -> Sums
-    ensures { (ps : List ImPeak1D) → s ≡ sums_of ps → result ≡ sums_of (ps ++ (p ∷ [])) }
-{
-    let weight = weight_of(p);
-    Sums {
-        weight: s.weight + weight,
-        area: s.area + p.area_raw,
-        tof_row: s.tof_row + numeric::of_u32(p.tof_row) * weight,
-        tof_center: s.tof_center + numeric::of_u32(p.tof_center) * weight,
-        scan: s.scan + numeric::of_u32(p.scan) * weight,
-        scan_abs: s.scan_abs + numeric::of_u32(p.scan_abs) * weight,
-        subscan: s.subscan + p.subscan * weight,
+impl Merging {
+    pub fn start(p: ImPeak1D) -> Merging
+        ensures { Holds result (p ∷ []) }
+    {
+        let sigma = p.flags / ImPeak1D::HAS_SIGMA % 2 == 1;
+        let weight = weight_of(p);
+        Merging {
+            sums: Sums::start(p),
+            bounds: Bounds::start(p),
+            heights: Heights::start(p),
+            sigma_weight: choose(sigma, 0.0 + weight, 0.0),
+            sigma: choose(sigma, 0.0 + p.scan_sigma * weight, 0.0),
+            mobility: mobility_of(p),
+            group: of_group_too(Some(p.window_group), p),
+            id: p.id,
+        }
     }
-}
 
-fn join_bounds(b: Bounds, p: ImPeak1D) -> Bounds
-    ensures { (ps : List ImPeak1D) → is_any ps ≡ true → b ≡ bounds_of ps → result ≡ bounds_of (ps ++ (p ∷ [])) }
-{
-    Bounds {
-        tof_lo: numeric::inner::lower(b.tof_lo, p.tof_lo),
-        tof_hi: numeric::inner::higher(b.tof_hi, p.tof_hi),
-        rt_lo: numeric::inner::lower(b.rt_lo, p.rt_lo),
-        rt_hi: numeric::inner::higher(b.rt_hi, p.rt_hi),
-        frame_id_lo: numeric::inner::lower(b.frame_id_lo, p.frame_id_lo),
-        frame_id_hi: numeric::inner::higher(b.frame_id_hi, p.frame_id_hi),
-        left: numeric::inner::lower(b.left, p.left),
-        right: numeric::inner::higher(b.right, p.right),
-        left_abs: numeric::inner::lower(b.left_abs, p.left_abs),
-        right_abs: numeric::inner::higher(b.right_abs, p.right_abs),
+    // What is kept with one more peak.
+    pub fn join(self, p: ImPeak1D) -> Merging
+        ensures { (ps : List ImPeak1D) → Holds self ps → Holds result (ps ++ (p ∷ [])) }
+    {
+        let sigma = p.flags / ImPeak1D::HAS_SIGMA % 2 == 1;
+        let weight = weight_of(p);
+        Merging {
+            sums: self.sums.join(p),
+            bounds: self.bounds.join(p),
+            heights: self.heights.join(p),
+            sigma_weight: choose(sigma, self.sigma_weight + weight, self.sigma_weight),
+            sigma: choose(sigma, self.sigma + p.scan_sigma * weight, self.sigma),
+            mobility: self.mobility.or(mobility_of(p)),
+            group: of_group_too(self.group, p),
+            id: self.id.min(p.id),
+        }
     }
-}
 
-fn join_heights(h: Heights, p: ImPeak1D) -> Heights
-    ensures { (ps : List ImPeak1D) → h ≡ heights_of ps → result ≡ heights_of (ps ++ (p ∷ [])) }
-{
-    Heights {
-        smoothed: numeric::max(h.smoothed, p.apex_smoothed),
-        raw: numeric::max(h.raw, p.apex_raw),
-        prominence: numeric::max(h.prominence, p.prominence),
-    }
-}
-
-pub fn join(m: Merging, p: ImPeak1D) -> Merging
-    ensures { (ps : List ImPeak1D) → Holds m ps → Holds result (ps ++ (p ∷ [])) }
-{
-    let sums = m.sums;
-    let bounds = m.bounds;
-    let heights = m.heights;
-    let sigma = p.flags / ImPeak1D::HAS_SIGMA % 2 == 1;
-    let mobility = p.flags / ImPeak1D::HAS_MOBILITY % 2 == 1;
-    let weight = weight_of(p);
-    Merging {
-        sums: join_sums(sums, p),
-        bounds: join_bounds(bounds, p),
-        heights: join_heights(heights, p),
-        sigma_weight: choose(sigma, m.sigma_weight + weight, m.sigma_weight),
-        sigma: choose(sigma, m.sigma + p.scan_sigma * weight, m.sigma),
-        any_mobility: m.any_mobility | mobility,
-        mobility: choose(
-            m.any_mobility,
-            m.mobility,
-            choose(mobility, p.mobility, 0.0),
-        ),
-        one_group: m.one_group & is_of_group(m.group, p),
-        group: m.group,
-        id: least_id(m.id, p.id),
+    // The peak into which they are merged.
+    pub fn finish(self) -> ImPeak1D
+        ensures { (ps : List ImPeak1D) → Holds self ps → result ≡ merged ps }
+    {
+        let s = self.sums;
+        let b = self.bounds;
+        let h = self.heights;
+        let divisor = choose(s.weight > 0.0, s.weight, 1.0);
+        let any_sigma = self.sigma_weight > 0.0;
+        ImPeak1D {
+            tof_row: whole_mean(s.tof_row, divisor),
+            tof_center: whole_mean(s.tof_center, divisor),
+            tof_lo: b.tof_lo,
+            tof_hi: b.tof_hi,
+            rt_lo: b.rt_lo,
+            rt_hi: b.rt_hi,
+            frame_id_lo: b.frame_id_lo,
+            frame_id_hi: b.frame_id_hi,
+            flags: flags_of(self.group.is_some(), self.mobility.is_some(), any_sigma),
+            window_group: self.group.unwrap_or(0),
+            scan: whole_mean(s.scan, divisor),
+            left: b.left,
+            right: b.right,
+            scan_abs: whole_mean(s.scan_abs, divisor),
+            left_abs: b.left_abs,
+            right_abs: b.right_abs,
+            scan_sigma: choose(any_sigma, self.sigma / self.sigma_weight, 0.0),
+            mobility: self.mobility.unwrap_or(0.0),
+            apex_smoothed: h.smoothed,
+            apex_raw: h.raw,
+            prominence: h.prominence,
+            left_x: numeric::of_u32(b.left_abs),
+            right_x: numeric::of_u32(b.right_abs),
+            width_scans: width_of(b.left_abs, b.right_abs),
+            area_raw: s.area,
+            subscan: s.subscan / divisor,
+            id: self.id,
+        }
     }
 }
 
@@ -260,13 +299,7 @@ fn whole_mean(sum: f32, divisor: f32) -> u32
 fn width_of(from: u32, to: u32) -> u32
     ensures { result ≡ width_of from to }
 {
-    if to < from {
-        return 1;
-    }
-    if to - from < 4294967295 {
-        return to - from + 1;
-    }
-    4294967295
+    to.saturating_sub(from).saturating_add(1)
 }
 
 fn flags_of(group: bool, mobility: bool, sigma: bool) -> u32
@@ -275,43 +308,4 @@ fn flags_of(group: bool, mobility: bool, sigma: bool) -> u32
     word_if(group, ImPeak1D::HAS_GROUP)
         + word_if(mobility, ImPeak1D::HAS_MOBILITY)
         + word_if(sigma, ImPeak1D::HAS_SIGMA)
-}
-
-pub fn finish(m: Merging) -> ImPeak1D
-    ensures { (ps : List ImPeak1D) → Holds m ps → result ≡ merged ps }
-{
-    let s = m.sums;
-    let b = m.bounds;
-    let h = m.heights;
-    let divisor = choose(s.weight > 0.0, s.weight, 1.0);
-    let any_sigma = m.sigma_weight > 0.0;
-    ImPeak1D {
-        tof_row: whole_mean(s.tof_row, divisor),
-        tof_center: whole_mean(s.tof_center, divisor),
-        tof_lo: b.tof_lo,
-        tof_hi: b.tof_hi,
-        rt_lo: b.rt_lo,
-        rt_hi: b.rt_hi,
-        frame_id_lo: b.frame_id_lo,
-        frame_id_hi: b.frame_id_hi,
-        flags: flags_of(m.one_group, m.any_mobility, any_sigma),
-        window_group: word_if(m.one_group, m.group),
-        scan: whole_mean(s.scan, divisor),
-        left: b.left,
-        right: b.right,
-        scan_abs: whole_mean(s.scan_abs, divisor),
-        left_abs: b.left_abs,
-        right_abs: b.right_abs,
-        scan_sigma: choose(any_sigma, m.sigma / m.sigma_weight, 0.0),
-        mobility: m.mobility,
-        apex_smoothed: h.smoothed,
-        apex_raw: h.raw,
-        prominence: h.prominence,
-        left_x: numeric::of_u32(b.left_abs),
-        right_x: numeric::of_u32(b.right_abs),
-        width_scans: width_of(b.left_abs, b.right_abs),
-        area_raw: s.area,
-        subscan: s.subscan / divisor,
-        id: m.id,
-    }
 }

@@ -103,13 +103,6 @@ same_place offsets i j e = rw e
 
 -- ---- the places of frames one after another
 
--- a frame's bins from s up to t
-pub first-in : (ix : Index) (f x r s t : ℕ) → s ≡ get_or ix.starts f 0 → t ≡ get_or ix.starts (f + 1) 0 → FirstAt ix.bins s t x r → FirstIn ix f x r
-first-in ix f x r s t se te g = rw (sym se, sym te) g
-
-pub first_out : (ix : Index) (f x r t : ℕ) → t ≡ get_or ix.starts (f + 1) 0 → FirstIn ix f x r → FirstAt ix.bins (get_or ix.starts f 0) t x r
-first_out ix f x r t te g = rw te g
-
 -- a place in a frame's word, and none in the others'
 pub placed-more : (ix : Index) (f k x v : ℕ) (near : List ℕ) → f + k < length near → Placed ix f k x near → FirstIn ix (f + k) x v → Placed ix f (k + 1) x (set near (f + k) v)
 placed-more ix f k x v near h p g j l = go (eqb j k) refl

@@ -2,9 +2,10 @@
 // sums are the same: a place is only where the search begins.
 ghost use Rattle.std.specs.Prelude.{◌≡◌, ◌++◌, ◌≤◌, ◌<◌, ◌+◌, length, drop};
 ghost use Rattle.framesums.specs.Sums.{frame_sums};
-ghost use Rattle.framesums.specs.Steps.{index_of, Checked, Rising, FirstAt, PointsOf};
+ghost use Rattle.framesums.specs.Steps.{Rising, FirstAt, PointsOf};
 ghost use Rattle.nearsums.specs.Steps.{FirstIn, Placed};
 
+use frameindex::CheckedIndex;
 use framesums::inner::{Span, Window};
 
 // The first place whose bin is x at least, of a few: those below are counted, all of them, since at a branch that leaves early the
@@ -39,14 +40,8 @@ fn first_near(bins: &[u32], from: usize, to: usize, x: u32, h: usize) -> usize
     requires { (from ≤ to) × (to ≤ length bins.now) × Rising bins.now from to }
     ensures { FirstAt bins.now from to x result }
 {
-    if from <= h {
-        if h < to {
-            if to - h >= 8 {
-                if bins[h] < x {
-                    return first_past(bins, h, to, x);
-                }
-            }
-        }
+    if from <= h && h < to && to - h >= 8 && bins[h] < x {
+        return first_past(bins, h, to, x);
     }
     framesums::inner::first_at(bins, from, to, x)
 }
@@ -59,121 +54,72 @@ fn place_before(s: usize, i: usize) -> usize
 }
 
 // The first place of frame f whose bin is x at least; h is where the last search of the frame ended.
-fn place_in(
-    starts: &[u32],
-    bins: &[u32],
-    offsets: &[u32],
-    scans: &[u32],
-    readings: &[f32],
-    f: usize,
-    x: u32,
-    h: usize,
-) -> u32
-    requires { Checked (index_of starts.now bins.now offsets.now scans.now readings.now) × (f + 1 < length starts.now) }
-    ensures { FirstIn (index_of starts.now bins.now offsets.now scans.now readings.now) f x result }
+fn place_in(ix: &CheckedIndex, f: usize, x: u32, h: usize) -> u32
+    requires { f + 1 < length ix.now.starts }
+    ensures { FirstIn ix.now f x result }
 {
-    let s = framesums::inner::place_at(starts, f);
-    let t = framesums::inner::place_at(starts, f + 1);
-    first_near(bins, s, t, x, place_before(s, h)) as u32
+    let starts = ix.starts;
+    let s = starts[f] as usize;
+    let t = starts[f + 1] as usize;
+    first_near(ix.bins, s, t, x, place_before(s, h)) as u32
 }
 
 // Puts such a place for each of n frames to the frame's word of `near`. All searches come before all sums, since then nothing but
 // searches stands between the readings of two frames' bins, and these overlap.
-fn put_places(
-    starts: &[u32],
-    bins: &[u32],
-    offsets: &[u32],
-    scans: &[u32],
-    readings: &[f32],
-    from: usize,
-    n: usize,
-    x: u32,
-    near: &mut [u32],
-)
-    requires { Checked (index_of starts.now bins.now offsets.now scans.now readings.now) × (from + n < length starts.now) × (from + n ≤ length near.old) }
-    ensures { Placed (index_of starts.now bins.now offsets.now scans.now readings.now) from n x near.new }
+fn put_places(ix: &CheckedIndex, from: usize, n: usize, x: u32, near: &mut [u32])
+    requires { (from + n < length ix.now.starts) × (from + n ≤ length near.old) }
+    ensures { Placed ix.now from n x near.new }
 {
-    let mut k = 0usize;
-    while k < n {
+    for k in 0..n {
         let f = from + k;
-        let h = framesums::inner::place_at(near, f);
-        near[f] = place_in(starts, bins, offsets, scans, readings, f, x, h);
-        k += 1;
+        let h = near[f] as usize;
+        near[f] = place_in(ix, f, x, h);
     }
 }
 
 // The points of frame f whose bins lie in the window, the first of which is at place i. Where there are none the offsets are not read.
-fn span_from(
-    starts: &[u32],
-    bins: &[u32],
-    offsets: &[u32],
-    scans: &[u32],
-    readings: &[f32],
-    f: usize,
-    w: Window,
-    i: usize,
-) -> Span
-    requires { Checked (index_of starts.now bins.now offsets.now scans.now readings.now) × (f + 1 < length starts.now)
-        × FirstIn (index_of starts.now bins.now offsets.now scans.now readings.now) f w.bin_lo i }
-    ensures { PointsOf (index_of starts.now bins.now offsets.now scans.now readings.now) w f result }
+fn span_from(ix: &CheckedIndex, f: usize, w: Window, i: usize) -> Span
+    requires { (f + 1 < length ix.now.starts)
+        × FirstIn ix.now f w.bin_lo i }
+    ensures { PointsOf ix.now w f result }
 {
-    let t = framesums::inner::place_at(starts, f + 1);
-    let j = framesums::inner::first_above(bins, i, t, w.bin_hi);
+    let starts = ix.starts;
+    let t = starts[f + 1] as usize;
+    let j = framesums::inner::first_above(ix.bins, i, t, w.bin_hi);
     if i == j {
         return Span { from: 0, to: 0 };
     }
     Span {
-        from: framesums::inner::place_at(offsets, i),
-        to: framesums::inner::place_at(offsets, j),
+        from: ix.offsets[i] as usize,
+        to: ix.offsets[j] as usize,
     }
 }
 
 // A sum for each of n frames whose first places are known.
-fn put_sums(
-    starts: &[u32],
-    bins: &[u32],
-    offsets: &[u32],
-    scans: &[u32],
-    readings: &[f32],
-    from: usize,
-    n: usize,
-    w: Window,
-    near: &[u32],
-    out: &mut [f32],
-)
-    requires { Checked (index_of starts.now bins.now offsets.now scans.now readings.now) × (from + n < length starts.now) × (from + n ≤ length near.now) × (n ≤ length out.old)
-        × Placed (index_of starts.now bins.now offsets.now scans.now readings.now) from n w.bin_lo near.now }
-    ensures { out.new ≡ frame_sums (index_of starts.now bins.now offsets.now scans.now readings.now) w from n ++ drop n out.old }
+fn put_sums(ix: &CheckedIndex, from: usize, n: usize, w: Window, near: &[u32], out: &mut [f32])
+    requires { (from + n < length ix.now.starts) × (from + n ≤ length near.now) × (n ≤ length out.old)
+        × Placed ix.now from n w.bin_lo near.now }
+    ensures { out.new ≡ frame_sums ix.now w from n ++ drop n out.old }
 {
-    let mut k = 0usize;
-    while k < n {
-        let i = framesums::inner::place_at(near, from + k);
-        let p = span_from(starts, bins, offsets, scans, readings, from + k, w, i);
-        out[k] = framesums::inner::add_points(starts, bins, offsets, scans, readings, p, w, 0.0);
-        k += 1;
+    for k in 0..n {
+        let i = near[from + k] as usize;
+        let p = span_from(ix, from + k, w, i);
+        out[k] = framesums::inner::add_points(ix.scans, ix.readings, p, w, 0.0);
     }
 }
 
 // A sum for each of n frames. `near` has a word for each frame of the run: where the last search of it ended, of whatever window.
 pub fn put_frame_sums_near(
-    starts: &[u32],
-    bins: &[u32],
-    offsets: &[u32],
-    scans: &[u32],
-    readings: &[f32],
+    ix: &CheckedIndex,
     from: usize,
     n: usize,
     w: Window,
     near: &mut [u32],
     out: &mut [f32],
 )
-    requires { Checked (index_of starts.now bins.now offsets.now scans.now readings.now) × (from + n < length starts.now) × (from + n ≤ length near.old) × (n ≤ length out.old) }
-    ensures { out.new ≡ frame_sums (index_of starts.now bins.now offsets.now scans.now readings.now) w from n ++ drop n out.old }
+    requires { (from + n < length ix.now.starts) × (from + n ≤ length near.old) × (n ≤ length out.old) }
+    ensures { out.new ≡ frame_sums ix.now w from n ++ drop n out.old }
 {
-    put_places(
-        starts, bins, offsets, scans, readings, from, n, w.bin_lo, near,
-    );
-    put_sums(
-        starts, bins, offsets, scans, readings, from, n, w, near, out,
-    );
+    put_places(ix, from, n, w.bin_lo, near);
+    put_sums(ix, from, n, w, near, out);
 }

@@ -1,4 +1,4 @@
--- What the number of a noise says, which answer it is, and what noise and time step are in the order of floats.
+-- What the number of a noise says, and what noise and time step are in the order of floats.
 use mathlib.Core.Path.{◌≡◌, refl, sym, ap, subst}
 use mathlib.Core.Bool.{Bool, true, false, not}
 use mathlib.Core.List.{List}
@@ -11,8 +11,6 @@ use lib.Ieee.{Float}
 use lib.Ieee.Scale.{finite}
 use Rattle.refusal.specs.Refusal.{first_of, ascending_from}
 use Rattle.refusal.proofs.RefusalLaws.{lowest_by, none-by, applies_for}
-use Rattle.refusal.specs.AnswersLaws.{from_says}
-use Rattle.refusal.proofs.AnswersLaws.{which}
 use Rattle.limits.specs.Limits.{max_height, max_seconds}
 use Rattle.numeric.specs.Arith.{at, ◌⊖◌}
 use Rattle.numeric.specs.Numeric.{abs_f, all_in_range}
@@ -22,10 +20,8 @@ use Rattle.rank.specs.Rank.{rank_f, distances, steps}
 use Rattle.rank.specs.RankLaws.{AllFinite}
 use Rattle.rank.proofs.Lists.{steps-length}
 use Rattle.rank.proofs.Floats.{rank-float, rank-reading, distances-plain, steps-plain}
-use Rattle.noise.specs.declared.NoiseAnswer.{NoiseAnswer}
-use Rattle.noise.specs.declared.NoiseAnswer.TheVariants.{Noise, Refused}
-use Rattle.noise.specs.Noise.{middle, noise_f, dt_f, noise_checks, noise_number, noise_says}
-use Rattle.noise.specs.NoiseLaws.{NoiseLowest, NoiseTold, Middle, NoiseIs, StepIs}
+use Rattle.noise.specs.Noise.{middle, noise_f, dt_f, noise_checks, noise_number}
+use Rattle.noise.specs.NoiseLaws.{NoiseLowest, Middle, NoiseIs, StepIs}
 
 pub number_is : (xs : List Float) → noise_number xs ≡ first_of (noise_checks xs)
 unfolding noise_number
@@ -43,14 +39,6 @@ module _ (xs : List Float) where
 -- it is the lowest that applies
 pub number-lowest : NoiseLowest
 number-lowest xs h = lowest_by (noise_checks xs) (number_is xs) (ascending xs) h
-
--- an answer is told by what it says
-again : (r : NoiseAnswer) → r ≡ from_says Noise Refused (noise_says r)
-again (Noise v) = refl
-again (Refused n) = refl
-
-pub noise-which : NoiseTold
-noise-which r n v e = which Noise Refused noise_says again r n v e
 
 -- ---- the middle one, by its rank
 pub middle-reading : (xs : List Float) → rank_f xs (length xs / 2) ≡ middle xs

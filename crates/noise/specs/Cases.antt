@@ -1,14 +1,14 @@
 -- Worked cases, by computation; they need not be read to know what is promised.
-use Rattle.std.specs.Prelude.{◌≡◌, refl, List, [], ◌∷◌, map, ℕ, Float}
+use Rattle.std.specs.Prelude.{◌≡◌, refl, List, [], ◌∷◌, map, ℕ, Float, Ok}
 use Rattle.std.specs.Float.{binary32}
 use Rattle.std.specs.Float.Ieee.{of_bits, to_bits, of_int, add, sub, neg, mul, lt, is_nan}
 use Rattle.refusal.specs.Refusal.{first_of}
 use Rattle.refusal.specs.Answers.{Says, answer_by}
+use Rattle.refusal.specs.Numbered.{says}
 use Rattle.numeric.specs.Arith.{𝟎, 𝟏, index_f}
 use Rattle.numeric.specs.Numeric.{max_f, abs_f, in_range, all_in_range}
 use Rattle.rank.specs.Rank.{counted, first_at, ranked, rank_f, distances, steps_from, steps}
-use Rattle.noise.specs.Noise.{middle, to_sigma, noise_f, shortest, dt_f, noise_number, noise_says}
-use Rattle.noise.specs.declared.NoiseAnswer.TheVariants.{Noise}
+use Rattle.noise.specs.Noise.{middle, to_sigma, noise_f, shortest, dt_f, noise_number}
 
 -- whole numbers as readings
 abbrev row : List ℕ → List Float
@@ -28,26 +28,26 @@ unfolding counted first_at ranked rank_f middle abs_f sub add neg of_int to_bits
 case-k-distance = refl
 
 -- 0x408e_5460 is 4.4478
-case-k-noise : entry (row (1 ∷ 2 ∷ 4 ∷ 9 ∷ [])) ≡ noise_says (Noise (of_bits binary32 0x408e_5460))
+case-k-noise : entry (row (1 ∷ 2 ∷ 4 ∷ 9 ∷ [])) ≡ says (Ok (of_bits binary32 0x408e_5460))
 unfolding noise_number first_of all_in_range in_range counted first_at ranked rank_f middle noise_f abs_f sub add neg mul of_int to_bits of_bits
 case-k-noise = refl
 
 -- an odd count, in no order: the middle is 4, the distances are 5, 3, 96, 2, 0
-odd-count : entry (row (9 ∷ 1 ∷ 100 ∷ 2 ∷ 4 ∷ [])) ≡ noise_says (Noise (of_bits binary32 0x408e_5460))
+odd-count : entry (row (9 ∷ 1 ∷ 100 ∷ 2 ∷ 4 ∷ [])) ≡ says (Ok (of_bits binary32 0x408e_5460))
 unfolding noise_number first_of all_in_range in_range counted first_at ranked rank_f middle noise_f abs_f sub add neg mul of_int to_bits of_bits
 odd-count = refl
 
 -- more than half of the readings are equal
-repeated : entry (row (7 ∷ 7 ∷ 2 ∷ 7 ∷ [])) ≡ noise_says (Noise 𝟎)
+repeated : entry (row (7 ∷ 7 ∷ 2 ∷ 7 ∷ [])) ≡ says (Ok 𝟎)
 unfolding noise_number first_of all_in_range in_range counted first_at ranked rank_f middle noise_f abs_f sub add neg mul of_int to_bits of_bits
 repeated = refl
 
 -- two samples have no noise, three have
-two : entry (row (1 ∷ 9 ∷ [])) ≡ noise_says (Noise 𝟎)
+two : entry (row (1 ∷ 9 ∷ [])) ≡ says (Ok 𝟎)
 unfolding noise_number first_of all_in_range in_range noise_f of_int to_bits
 two = refl
 
-three : entry (row (1 ∷ 9 ∷ 2 ∷ [])) ≡ noise_says (Noise to_sigma)
+three : entry (row (1 ∷ 9 ∷ 2 ∷ [])) ≡ says (Ok to_sigma)
 unfolding noise_number first_of all_in_range in_range counted first_at ranked rank_f middle noise_f abs_f sub add neg mul of_int to_bits of_bits
 three = refl
 

@@ -1,16 +1,12 @@
 -- The noise of a trace, and its time step. The middle one of n elements is the one at rank n / 2, rounded down.
 use Rattle.std.specs.Prelude.{cond, not, List, [], ◌∷◌, ℕ, ◌/◌, ltb, length, Float}
-use Rattle.std.proofs.Math.Option.{none, some}
 use Rattle.std.specs.Float.{binary32}
 use Rattle.std.specs.Float.Ieee.{of_bits}
 use Rattle.refusal.specs.Refusal.{Check, first_of}
-use Rattle.refusal.specs.Answers.{Says}
 use Rattle.limits.specs.Limits.{max_samples, max_height}
 use Rattle.numeric.specs.Arith.{◌⊗◌, 𝟎, 𝟏}
 use Rattle.numeric.specs.Numeric.{max_f, all_in_range}
 use Rattle.rank.specs.Rank.{rank_f, distances, steps}
-use Rattle.noise.specs.declared.NoiseAnswer.{NoiseAnswer}
-use Rattle.noise.specs.declared.NoiseAnswer.TheVariants.{Noise, Refused}
 
 -- the middle one
 unfoldable pub middle : List Float → Float
@@ -43,8 +39,3 @@ noise_checks xs =
 
 unfoldable pub noise_number : List Float → ℕ
 noise_number xs = first_of (noise_checks xs)
-
--- what its answers say
-abbrev pub noise_says : NoiseAnswer → Says Float
-noise_says (Noise v) = record { number = 0; values = some v }
-noise_says (Refused n) = record { number = n; values = none }

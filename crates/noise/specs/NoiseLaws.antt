@@ -1,23 +1,16 @@
--- What the number of a noise says, which answer it is, and what noise and time step are in the order of floats.
-use Rattle.std.specs.Prelude.{◌≡◌, cond, true, List, ℕ, ◌/◌, ◌≤◌, ◌<◌, eqb, length, Float}
+-- What the number of a noise says, and what noise and time step are in the order of floats.
+use Rattle.std.specs.Prelude.{◌≡◌, true, List, ◌/◌, ◌≤◌, ◌<◌, length, Float}
 use Rattle.refusal.specs.Refusal.{Lowest}
-use Rattle.refusal.specs.Answers.{answer_by}
 use Rattle.limits.specs.Limits.{max_seconds}
 use Rattle.numeric.specs.Arith.{◌⊗◌}
 use Rattle.numeric.specs.Numeric.{max_f, all_in_range}
 use Rattle.numeric.specs.Plain.{AllFit}
 use Rattle.rank.specs.Rank.{AtRankF, distances, steps}
-use Rattle.noise.specs.declared.NoiseAnswer.{NoiseAnswer}
-use Rattle.noise.specs.declared.NoiseAnswer.TheVariants.{Noise, Refused}
-use Rattle.noise.specs.Noise.{to_sigma, noise_f, shortest, dt_f, noise_checks, noise_number, noise_says}
+use Rattle.noise.specs.Noise.{to_sigma, noise_f, shortest, dt_f, noise_checks, noise_number}
 
 -- it is the lowest that applies: `number-lowest` in proofs/NoiseLaws.antt
 abbrev pub NoiseLowest : Type 0
 NoiseLowest = (xs : List Float) → 0 < noise_number xs → Lowest (noise_checks xs) (noise_number xs)
-
--- an answer is told by what it says: `noise-which`
-abbrev pub NoiseTold : Type 0
-NoiseTold = (r : NoiseAnswer) (n : ℕ) (v : Float) → noise_says r ≡ answer_by n v → r ≡ cond (eqb n 0) (Noise v) (Refused n)
 
 -- v is the middle one of xs: half of them, rounded down, at most are smaller, and more than that are smaller or equal
 abbrev pub Middle : List Float → Float → Type 0

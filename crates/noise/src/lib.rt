@@ -5,33 +5,28 @@ pub mod inner;
 
 ghost use Rattle.std.specs.Prelude.{◌≡◌};
 ghost use Rattle.refusal.specs.Answers.{answer_by};
-ghost use Rattle.noise.specs.Noise.{noise_f, noise_number, noise_says};
+ghost use Rattle.refusal.specs.Numbered.{number_in, says};
+ghost use Rattle.noise.specs.Noise.{noise_f, noise_number};
 
-#[derive(Clone, Copy)]
-pub enum NoiseAnswer {
-    Noise(f32),
-    Refused(u32),
-}
+use refusal::Refusal;
 
-// The lowest number that applies, or 0.
-fn number(signal: &[f32]) -> u32
-    ensures { result ≡ noise_number signal.now }
+// Refuses with the lowest number that applies.
+#[tactic(auto, unfolding(crate::specs::Noise::noise_number, refusal::specs::Refusal::first_of))]
+fn check(signal: &[f32]) -> Result<(), Refusal>
+    ensures { number_in result ≡ noise_number signal.now }
 {
     if signal.len() > limits::MAX_SAMPLES {
-        return 2;
+        return Err(Refusal::Size);
     }
     if !numeric::inner::all_in_range(signal, limits::MAX_HEIGHT) {
-        return 3;
+        return Err(Refusal::Reading);
     }
-    0
+    Ok(())
 }
 
-pub fn robust_noise_mad(signal: &[f32]) -> NoiseAnswer
-    ensures { noise_says result ≡ answer_by (noise_number signal.now) (noise_f signal.now) }
+pub fn robust_noise_mad(signal: &[f32]) -> Result<f32, Refusal>
+    ensures { says result ≡ answer_by (noise_number signal.now) (noise_f signal.now) }
 {
-    let n = number(signal);
-    if n != 0 {
-        return NoiseAnswer::Refused(n);
-    }
-    NoiseAnswer::Noise(inner::robust_noise_mad(signal))
+    check(signal)?;
+    Ok(inner::robust_noise_mad(signal))
 }

@@ -1,5 +1,5 @@
 // Steps of other crates, for arguments that they have checked.
-ghost use Rattle.std.specs.Prelude.{◌≡◌, ◌≤◌, min, max, T, length, pos};
+ghost use Rattle.std.specs.Prelude.{◌≡◌, ◌≤◌, T, min, max, length, pos};
 ghost use Rattle.std.specs.Float.{binary32};
 ghost use Rattle.std.specs.Float.Ieee.{of_int, fits};
 ghost use Rattle.limits.specs.Limits.{exact_index};
@@ -19,8 +19,8 @@ pub fn all_in_range(y: &[f32], limit: u32) -> bool
     ensures { result ≡ all_in_range limit y.now }
 {
     let mut all = true;
-    for i in 0..y.len() {
-        all = all & super::in_range(y[i], limit);
+    for &x in y {
+        all &= super::in_range(x, limit);
     }
     all
 }
@@ -34,8 +34,8 @@ fn fit(x: f32)
 pub fn all_fit(y: &[f32])
     ensures { AllFit y.now }
 {
-    for i in 0..y.len() {
-        fit(y[i]);
+    for &x in y {
+        fit(x);
     }
 }
 
@@ -43,11 +43,11 @@ pub fn all_fit(y: &[f32])
 pub fn lower(a: u32, b: u32) -> u32
     ensures { result ≡ min a b }
 {
-    if a < b { a } else { b }
+    a.min(b)
 }
 
 pub fn higher(a: u32, b: u32) -> u32
     ensures { result ≡ max a b }
 {
-    if a < b { b } else { a }
+    a.max(b)
 }

@@ -17,28 +17,6 @@ pub fn lent_or_empty(n: usize, table: &[f32]) -> bool
     (table.len() == 0) | (table.len() == n)
 }
 
-pub fn sound_params(p: ImDetectParams) -> bool
-    ensures { result ≡ sound_params p }
-{
-    numeric::in_range(p.min_prom, limits::MAX_HEIGHT)
-        & (p.min_distance_scans <= limits::MAX_COUNT)
-        & (p.min_width_scans <= limits::MAX_COUNT)
-}
-
-pub fn sound_bounds(f: FrameBounds) -> bool
-    ensures { result ≡ sound_bounds f }
-{
-    (f.rt_lo <= f.rt_hi) & (f.rt_hi <= limits::LAST_FRAME) & (f.frame_id_lo <= f.frame_id_hi)
-}
-
-pub fn sound_tof(r: RowPlace) -> bool
-    ensures { result ≡ sound_tof r }
-{
-    (r.tof_center <= limits::MAX_TOF_BOUND)
-        & (r.tof_lo <= limits::MAX_TOF_BOUND)
-        & (r.tof_hi <= limits::MAX_TOF_BOUND)
-}
-
 pub fn enough_ids(first: PeakId, peaks: usize) -> bool
     ensures { result ≡ enough_ids first peaks }
 {
@@ -52,8 +30,8 @@ pub fn all_up_to(limit: u32, axis: &[u32]) -> bool
     ensures { result ≡ all_up_to limit axis.now }
 {
     let mut all = true;
-    for i in 0..axis.len() {
-        all = all & (axis[i] <= limit);
+    for &s in axis {
+        all &= s <= limit;
     }
     all
 }

@@ -12,7 +12,7 @@ use native.Mathlib.Numerals.{add-one}
 use borrow.Author.Tests.{eqb-true, eqb-false}
 use lib.Dec.{eqb}
 use lib.ListN.{length, get_or, take, drop, set, length-map, length-append, length-drop, take-append-drop, drop_of_length-le, get_or-append}
-use lib.Seq.{drop-cons, drop-drop, drop_at, take_at, take-suc, set_at, get_or_at, length-take-le, get_or-append-add, get_or-take, get_or-drop, ext_get_or, sets, sets-eq, take-add}
+use lib.Seq.{drop-cons, drop-drop, drop_at, take_at, take-suc, set_at, get_or_at, length-take-le, get_or-append-add, get_or-take, get_or-drop, ext_get_or}
 use Rattle.refusal.proofs.Bools.{both}
 use Rattle.record.specs.Record.{size, peak_at}
 use Rattle.record.proofs.RoundTrip.{own-words}
@@ -22,7 +22,7 @@ use Rattle.peaklist.specs.PeakListLaws.{AllFit}
 use Rattle.peaklist.proofs.PeakListLaws.{peaks-length, nth-peaks, words-length, read_back}
 use Rattle.digits.specs.Sorted.{sorted_by, row, up_to}
 use Rattle.digits.proofs.SortedLaws.{at-index, sort-same, sort-none}
-use Rattle.digits.proofs.UpTo.{front-map, same_map, upto-get, upto-length, upto-lt}
+use Rattle.digits.proofs.UpTo.{same_map, upto-get, upto-length, upto-lt}
 use Rattle.matching.specs.declared.StitchParams.{StitchParams}
 use Rattle.keys.specs.declared.KeyRule.{KeyRule}
 use Rattle.keys.specs.declared.KeyRule.TheVariants.{First, Identity}
@@ -252,21 +252,3 @@ module _ (params : StitchParams) (ps : List ImPeak1D) (m : ℕ) (counted : m ≡
         (same_map (λ k. get_or seconds (first k) 0) (λ k. number_in (second_groups params ps) (first k)) (length ps)
         (λ k h. ap (λ (l : List ℕ). get_or l (first k) 0) d
         ∙ column-at (number_in (second_groups params ps)) m back (first k) (omega (arith, counted, pass-number (First params) params ps k h))))
-
--- ---- a record that is copied
-
-pub nine-copied : (from to : List ℕ) → 9 ≤ length from → 9 ≤ length to → sets to 0 (map (λ k. get_or from k 0) (up_to 9)) ≡ take 9 from ++ drop 9 to
-unfolding up_to
-nine-copied from to h k =
-    sets-eq (map (λ k. get_or from k 0) (up_to 9)) to 0 k
-    ∙ ap (λ (l : List ℕ). l ++ drop 9 to) (sym (front-map from (λ k. get_or from k 0) 9 h (λ k l. refl)))
-
--- nine words more
-pub third-copied : (from to out out' : List ℕ) (a : ℕ) → a + 9 ≤ length from → a + 9 ≤ length to → out ≡ take a from ++ drop a to
-    → out' ≡ take a out ++ (take 9 (drop a from) ++ drop (a + 9) out) → out' ≡ take (a + 9) from ++ drop (a + 9) to
-third-copied from to out out' a h k e f =
-    let l : length (take a from) ≡ a = length-take-le a from (omega arith) in
-    let front : take a (take a from ++ drop a to) ≡ take a from = take_at (take a from) (drop a to) a l in
-    let rest : drop (a + 9) (take a from ++ drop a to) ≡ drop (a + 9) to =
-    sym (drop-drop 9 a (take a from ++ drop a to)) ∙ ap (drop 9) (drop_at (take a from) (drop a to) a l) ∙ drop-drop 9 a to in
-    f ∙ rw (e, front, rest, take-add a 9 from, append_assoc)

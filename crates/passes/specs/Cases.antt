@@ -12,7 +12,7 @@ use Rattle.matching.specs.Cases.{asked}
 use Rattle.matching.specs.Matching.{samples, overlap, jaccard_f, enough_common, at_most, group_of}
 use Rattle.matching.specs.Matching.{same_group, rows_near, frames_overlap, scans_overlap, inside, apexes_inside, compatible}
 use Rattle.matching.specs.Group.{row_span, scan_span, within_limits, may_join}
-use Rattle.keys.specs.Keys.{bucket_of, key_of}
+use Rattle.keys.specs.Keys.{group_there, group_number, bucket_of, key_of}
 use Rattle.rounding.specs.Rounding.{round_f}
 use Rattle.merging.specs.Merging.{highest_f, summed, weight, having, have_all, first_of, merged}
 use Rattle.merging.specs.MergingLaws.{retention, scan, low, high}
@@ -24,7 +24,7 @@ use Rattle.passes.specs.Account.{places_of, members_of}
 -- Three peaks, in rows 102, 200 and 100: the first pass leaves each alone, in the order of the rows, and the second joins the first
 -- two of its peaks.
 pub second-groups : second_groups (asked 2 10) three ≡ (0 ∷ 1 ∷ []) ∷ (2 ∷ []) ∷ []
-unfolding pass_groups sorted_by inserted lex_lt up_to key_of bucket_of bucket_by groups groups_from follows may_join within_limits row_span scan_span extreme compatible same_group group_of rows_near at_most frames_overlap scans_overlap enough_common overlap jaccard_f samples apexes_inside inside max_f is_nan lt le add sub div of_int of_bits to_bits group_peaks merged highest_f summed weight having is_any have_all first_of round_f mul round to_unsigned
+unfolding pass_groups sorted_by inserted lex_lt up_to key_of group_there group_number bucket_of bucket_by groups groups_from follows may_join within_limits row_span scan_span extreme compatible same_group group_of rows_near at_most frames_overlap scans_overlap enough_common overlap jaccard_f samples apexes_inside inside max_f is_nan lt le add sub div of_int of_bits to_bits group_peaks merged highest_f summed weight having is_any have_all first_of round_f mul round to_unsigned
 second-groups = refl
 
 -- so rows 102 and 100 come to the stitched peak 0, and row 200 to the stitched peak 1

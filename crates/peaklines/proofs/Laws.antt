@@ -56,16 +56,9 @@ module _ (r : ℕ) (y : List Float) where
       rw k.is (one-printed (oldest j ks) d out last n m k.apex h (c ∙ ap (λ (x : List ℕ). n + length x) l) (o ∙ ap (λ (x : List ℕ). take n out ++ (x ++ drop m out)) l))
 
 -- a row that is ready and reaches the floor can be searched
-pub searchable : {p : ImDetectParams} {y : List Float} {room : ℕ} (turns bases found : ℕ) → Printable y room
-    → reaches p.min_prom (highest_reading 𝟎 y) ≡ true → length y ≤ turns → turns ≤ 2 * bases + 1 → 4 * turns ≤ found + 4 → Searchable p y y turns bases found
-searchable turns bases found r f a b c =
-    record {
-      numbers = r.numbers;
-      raw = refl;
-      short = let s = r.short in omega arith;
-      room = record { turns-long = a; bases-long = omega arith; found-long = omega arith };
-      floor = f;
-    }
+pub searchable : {p : ImDetectParams} {y : List Float} {room : ℕ} (samples : ℕ) → Printable y room
+    → reaches p.min_prom (highest_reading 𝟎 y) ≡ true → length y ≤ samples → Searchable p y y samples
+searchable samples r f a = record { numbers = r.numbers; raw = refl; short = let s = r.short in omega arith; room = a; floor = f }
 
 -- ---- no field of a line speaks of the scan axis
 

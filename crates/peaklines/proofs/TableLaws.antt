@@ -14,7 +14,7 @@ use Rattle.refusal.proofs.Bools.{both}
 use Rattle.table.specs.declared.Progress.{Progress}
 use Rattle.table.specs.declared.RowsSoFar.{RowsSoFar}
 use Rattle.table.specs.declared.Verdict.{Verdict}
-use Rattle.table.specs.declared.RowText.{RowText}
+use Rattle.std.proofs.Common.{Option, Some, None}
 use Rattle.table.specs.Text.{fields, value, all_numbers, readings, is_row, row_text, params_of}
 use Rattle.table.specs.Print.{refusal}
 use Rattle.table.specs.Table.{verdict, is_next, counted, at_line, printed_from}
@@ -23,9 +23,9 @@ use Rattle.table.proofs.Readings.{readings-range}
 use Rattle.peaklines.specs.TableText.{line_text, text_of, peaks_text, Sound, behind_line, LineByLine}
 
 -- ---- verdicts
-first-row : (s t : RowsSoFar) (x : RowText) → counted s x ≡ Verdict.Row t → 1 ≤ t.rows
-first-row s t RowText.Bad e = let z : ◌≡◌ {A = ℕ} 0 1 = cc in absurd (omega arith)
-first-row s t (RowText.Row n) e = go (is_next s n) e
+first-row : (s t : RowsSoFar) (x : Option ℕ) → counted s x ≡ Verdict.Row t → 1 ≤ t.rows
+first-row s t None e = let z : ◌≡◌ {A = ℕ} 0 1 = cc in absurd (omega arith)
+first-row s t (Some n) e = go (is_next s n) e
   where
     go : (b : Bool) → cond b (Verdict.Row (record { params = s.params; count = n; rows = s.rows + 1 })) Verdict.Refused ≡ Verdict.Row t → 1 ≤ t.rows
     go true e = let k : s.rows + 1 ≡ t.rows = cc in omega arith

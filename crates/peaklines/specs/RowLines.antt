@@ -9,7 +9,7 @@ use Rattle.params.specs.Params.{most_peaks}
 use Rattle.params.specs.declared.ImDetectParams.{ImDetectParams}
 use Rattle.params.specs.declared.RowPlace.{RowPlace}
 use Rattle.params.specs.declared.FrameBounds.{FrameBounds}
-use Rattle.params.specs.declared.WindowGroup.TheVariants.{Missing}
+use Rattle.std.specs.Prelude.{None}
 use Rattle.record.specs.declared.ImPeak1D.{ImPeak1D}
 use Rattle.rowsearch.specs.Qualifying.{kept}
 use Rattle.row.specs.declared.inner.OnAxes.{OnAxes}
@@ -21,7 +21,7 @@ abbrev pub place_of : ℕ → RowPlace
 place_of r = record { tof_row = r; tof_center = 0; tof_lo = 0; tof_hi = 0 }
 
 abbrev pub no_frames : FrameBounds
-no_frames = record { rt_lo = 0; rt_hi = 0; frame_id_lo = 0; frame_id_hi = 0; window_group = Missing }
+no_frames = record { rt_lo = 0; rt_hi = 0; frame_id_lo = 0; frame_id_hi = 0; window_group = None }
 
 abbrev pub no_axes : OnAxes
 no_axes = record { scan = 0; left = 0; right = 0; mobility = 𝟎; flag = 0 }

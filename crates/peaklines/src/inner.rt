@@ -5,14 +5,16 @@ ghost use Rattle.numeric.specs.Arith.{𝟎};
 ghost use Rattle.params.specs.Params.{most_peaks};
 ghost use Rattle.rowsearch.specs.Qualifying.{highest_reading, reaches};
 ghost use Rattle.rowsearch.specs.Found.{Searchable, Standing};
+ghost use Rattle.rowsearch.specs.Room.{Sizes};
 ghost use Rattle.table.specs.Print.{peak_line};
 ghost use Rattle.table.specs.Table.{verdict};
 ghost use Rattle.peaklines.specs.RowLines.{place_of, no_frames, no_axes, row_lines, Printable, Printed};
 ghost use Rattle.peaklines.specs.TableText.{peaks_text, text_of, line_text, Counted, Sound};
 
-use params::{FrameBounds, ImDetectParams, RowPlace, WindowGroup};
+use params::{FrameBounds, ImDetectParams, RowPlace};
 use record::ImPeak1D;
 use row::inner::OnAxes;
+use rowsearch::scratch::Scratch;
 use table::{Progress, RowsSoFar, Verdict};
 
 fn place_of(tof_row: u32) -> RowPlace
@@ -34,7 +36,7 @@ fn no_frames() -> FrameBounds
         rt_hi: 0,
         frame_id_lo: 0,
         frame_id_hi: 0,
-        window_group: WindowGroup::Missing,
+        window_group: None,
     }
 }
 
@@ -78,58 +80,44 @@ fn put_peak_lines(found: &[u32], n: usize, y: &[f32], tof_row: u32, out: &mut [u
 }
 
 // Writes the lines of the listed peaks of a row that reaches the floor to the front of `out` and answers how many bytes they are.
-// The lists for turns, bases and what is found are scratch.
-fn put_lines_in(
+fn put_lines_by(
     y: &[f32],
     tof_row: u32,
     p: ImDetectParams,
-    turns: &mut [u32],
-    bases: &mut [u32],
-    found: &mut [u32],
+    scratch: &mut Scratch<'_>,
     out: &mut [u8],
 ) -> usize
-    requires { Printable y.now (length out.old) × Searchable p y.now y.now (length turns.old) (length bases.old) (length found.old) }
+    requires { Printable y.now (length out.old) × Searchable p y.now y.now scratch.old.samples }
     ensures count { result ≡ length (row_lines p tof_row y.now) }
     ensures front { out.new ≡ row_lines p tof_row y.now ++ drop result out.old }
 {
-    let n = rowsearch::inner::find_apexes(y, y, p, turns, bases, found);
-    put_peak_lines(found, n, y, tof_row, out)
+    let n = rowsearch::inner::find_apexes(y, y, p, scratch);
+    put_peak_lines(scratch.found, n, y, tof_row, out)
 }
 
-// The same with room for a row of 64 samples.
-fn put_lines_in_64(y: &[f32], tof_row: u32, p: ImDetectParams, out: &mut [u8]) -> usize
-    requires { Printable y.now (length out.old) × (reaches p.min_prom (highest_reading 𝟎 y.now) ≡ true) × (length y.now ≤ 64) }
+// The same with scratch of its own, for a row of at most N samples. It is no part of its callers, so that each has the stack of one size alone.
+#[inline(never)]
+fn put_lines_in<const N: usize, const B: usize, const F: usize>(
+    y: &[f32],
+    tof_row: u32,
+    p: ImDetectParams,
+    out: &mut [u8],
+) -> usize
+    requires row { Printable y.now (length out.old) × (reaches p.min_prom (highest_reading 𝟎 y.now) ≡ true) × (length y.now ≤ N) }
+    requires sizes { Sizes N B F }
     ensures count { result ≡ length (row_lines p tof_row y.now) }
     ensures front { out.new ≡ row_lines p tof_row y.now ++ drop result out.old }
 {
-    let mut turns = [0u32; 64];
-    let mut bases = [0u32; 68];
-    let mut found = [0u32; 256];
-    put_lines_in(y, tof_row, p, &mut turns, &mut bases, &mut found, out)
-}
-
-// The same with room for a row of 1,024 samples.
-fn put_lines_in_1024(y: &[f32], tof_row: u32, p: ImDetectParams, out: &mut [u8]) -> usize
-    requires { Printable y.now (length out.old) × (reaches p.min_prom (highest_reading 𝟎 y.now) ≡ true) × (length y.now ≤ 1024) }
-    ensures count { result ≡ length (row_lines p tof_row y.now) }
-    ensures front { out.new ≡ row_lines p tof_row y.now ++ drop result out.old }
-{
-    let mut turns = [0u32; 1024];
-    let mut bases = [0u32; 800];
-    let mut found = [0u32; 4096];
-    put_lines_in(y, tof_row, p, &mut turns, &mut bases, &mut found, out)
-}
-
-// The same with room for a row of 4,096 samples.
-fn put_lines_in_4096(y: &[f32], tof_row: u32, p: ImDetectParams, out: &mut [u8]) -> usize
-    requires { Printable y.now (length out.old) × (reaches p.min_prom (highest_reading 𝟎 y.now) ≡ true) × (length y.now ≤ max_fields) }
-    ensures count { result ≡ length (row_lines p tof_row y.now) }
-    ensures front { out.new ≡ row_lines p tof_row y.now ++ drop result out.old }
-{
-    let mut turns = [0u32; 4096];
-    let mut bases = [0u32; 2336];
-    let mut found = [0u32; 16384];
-    put_lines_in(y, tof_row, p, &mut turns, &mut bases, &mut found, out)
+    let mut turns = [0u32; N];
+    let mut bases = [0u32; B];
+    let mut found = [0u32; F];
+    let mut scratch = Scratch {
+        samples: N,
+        turns: &mut turns,
+        bases: &mut bases,
+        found: &mut found,
+    };
+    put_lines_by(y, tof_row, p, &mut scratch, out)
 }
 
 // Writes the lines of a row's listed peaks to the front of `out` and answers how many bytes they are: a row that does not reach the
@@ -143,12 +131,12 @@ pub fn put_row_lines(y: &[f32], tof_row: u32, p: ImDetectParams, out: &mut [u8])
         return 0;
     }
     if y.len() <= 64 {
-        return put_lines_in_64(y, tof_row, p, out);
+        return put_lines_in::<64, 68, 256>(y, tof_row, p, out);
     }
     if y.len() <= 1024 {
-        return put_lines_in_1024(y, tof_row, p, out);
+        return put_lines_in::<1024, 800, 4096>(y, tof_row, p, out);
     }
-    put_lines_in_4096(y, tof_row, p, out)
+    put_lines_in::<4096, 2336, 16384>(y, tof_row, p, out)
 }
 
 // Writes the lines of the peaks of an accepted row, whose readings stand at the front of `row`.

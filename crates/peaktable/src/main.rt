@@ -4,90 +4,64 @@
 
 mod say;
 
-ghost use Rattle.std.specs.Prelude.{◌≡◌, true, List, ℕ, ◌≤◌, ◌<◌, ◌+◌, length, take};
+ghost use Rattle.std.specs.Prelude.{◌≡◌, List, ℕ, ◌≤◌, ◌<◌, ◌+◌, length, take, is_some, IfOk};
 ghost use Rattle.table.specs.Sizes.{max_fields, max_line, line_room};
 ghost use Rattle.linefault.specs.Faults.{refused_at_end};
 ghost use Rattle.tablejob.specs.Stands.{Ends};
-ghost use Rattle.peaktable.specs.Reads.{bytes_of};
 
 use linefault::Fault;
-use std::io::{ErrorKind, Read, Stdin};
+use say::Failure;
+use std::io::{self, Read, Stdin};
 use tablejob::inner::Job;
 
-// What reading gives: bytes behind those that are there, the end of the input, or a failure.
-#[derive(Clone, Copy)]
-enum More {
-    Bytes(usize),
-    End,
-    Failed,
-}
-
-fn more_bytes(input: &mut Stdin, buf: &mut [u8], have: usize) -> More
+// Reads bytes behind those that are there, and says how many: 0 at the end of the input.
+fn more_bytes(input: &mut Stdin, buf: &mut [u8], have: usize) -> io::Result<usize>
     requires { have < length buf.old }
     ensures buf_unchanged { take have buf.new ≡ take have buf.old }
-    ensures result_in_bounds { have + bytes_of result ≤ length buf.old }
+    ensures result_in_bounds { IfOk result (λ k. have + k ≤ length buf.old) }
 {
-    let Ok(k) = input.read(&mut buf[have..]) else {
-        return More::Failed;
-    };
-    if k == 0 {
-        return More::End;
-    }
-    More::Bytes(k)
-}
-
-// Writes the text that waits; a word on standard error where it cannot be written.
-fn written(rt: &(impl Print + Eprint), out: &[u8], n: usize) -> bool
-    requires { n ≤ length out.now }
-{
-    let Err(e) = rt.write_all(&out[..n]) else {
-        return true;
-    };
-    match e.kind() {
-        ErrorKind::BrokenPipe => say::reader_gone(rt),
-        _ => say::cannot_write(rt),
-    }
-    false
+    input.read(&mut buf[have..])
 }
 
 // Writes the end of the table of all that was read, after a word on standard error where it is a refusal.
-fn finish(rt: &(impl Print + Eprint), j: Job, f: Fault, out: &[u8])
+fn finish(
+    rt: &(impl Print + Eprint),
+    j: Job,
+    fault: Option<Fault>,
+    out: &[u8],
+) -> Result<(), Failure>
     requires { (j.waiting ≤ length out.now) × ((input : List ℕ) × (gone : List ℕ) × Ends input gone out.now j) }
 {
-    let progress = j.progress;
-    if f.bad {
-        say::refused(rt, progress, f);
+    if let Some(fault) = fault {
+        say::refused(rt, j.progress, fault);
     }
-    written(rt, out, j.waiting);
+    rt.write_all(&out[..j.waiting])?;
+    Ok(())
 }
 
 // The fault of the line that ended the table, whatever comes behind it.
 fn fault_behind(j: Job, buf: &[u8]) -> Fault
     requires { j.from ≤ length buf.now }
-    ensures { result.bad ≡ true }
 {
-    let progress = j.progress;
-    let from = j.from;
-    linefault::last_fault(progress, &buf[..from])
+    linefault::last_fault(j.progress, &buf[..j.from])
 }
 
 // The fault at the end of the input, if there is one.
-fn fault_at_end(j: Job, buf: &[u8]) -> Fault
+fn fault_at_end(j: Job, buf: &[u8]) -> Option<Fault>
     requires { j.have ≤ length buf.now }
-    ensures { result.bad ≡ refused_at_end j.progress (take j.have buf.now) }
+    ensures { is_some result ≡ refused_at_end j.progress (take j.have buf.now) }
 {
-    let progress = j.progress;
-    let have = j.have;
-    linefault::end_fault(progress, &buf[..have])
+    linefault::end_fault(j.progress, &buf[..j.have])
 }
 
 // Writes what waits where reading failed: the refusal behind it.
-fn give_up(rt: &(impl Print + Eprint), j: Job, out: &mut [u8])
+fn give_up(rt: &(impl Print + Eprint), j: Job, out: &mut [u8]) -> Result<(), Failure>
     requires { j.waiting + line_room ≤ length out.old }
 {
-    let r = tablejob::inner::refused(j, out);
-    say::cannot_read(rt);
-    written(rt, out, r.waiting);
+    let r = j.refused(out);
+    say::failed(rt, Failure::Read);
+    rt.write_all(&out[..r.waiting])?;
+    Ok(())
 }
 
 fn run(
@@ -96,49 +70,39 @@ fn run(
     buf: &mut [u8],
     row: &mut [f32],
     out: &mut [u8],
-)
+) -> Result<(), Failure>
     requires { (max_line < length buf.old) × (max_fields ≤ length row.old) × (line_room ≤ length out.old) }
 {
-    let mut job = tablejob::inner::start();
-    let mut turns = u64::MAX;
-    while turns > 0 {
-        turns -= 1;
-        job = tablejob::inner::work(job, buf, row, out);
+    let mut job = Job::start();
+    for _ in 0..u64::MAX {
+        job = job.work(buf, row, out);
         if !job.goes_on {
             let fault = fault_behind(job, buf);
-            finish(rt, job, fault, out);
-            return;
+            return finish(rt, job, Some(fault), out);
         }
         if out.len() - job.waiting < table::LINE_ROOM {
-            if !written(rt, out, job.waiting) {
-                return;
-            }
-            job = tablejob::inner::handed_over(job);
+            rt.write_all(&out[..job.waiting])?;
+            job = job.handed_over();
         } else {
-            let more = more_bytes(input, buf, job.have);
-            match more {
-                More::Bytes(k) => {
-                    job = tablejob::inner::with_bytes(job, k);
-                }
-                More::End => {
+            match more_bytes(input, buf, job.have) {
+                Ok(0) => {
                     let fault = fault_at_end(job, buf);
-                    job = tablejob::inner::ended(job, buf, row, out);
-                    finish(rt, job, fault, out);
-                    return;
+                    job = job.ended(buf, row, out);
+                    return finish(rt, job, fault, out);
                 }
-                More::Failed => {
-                    give_up(rt, job, out);
-                    return;
-                }
+                Ok(k) => job = job.with_bytes(k),
+                Err(_) => return give_up(rt, job, out),
             }
         }
     }
-    say::cannot_read(rt);
+    Err(Failure::Read)
 }
 
 fn main(rt: HostRuntime) {
     let mut buf = [0u8; 65536];
     let mut row = [0f32; table::MAX_FIELDS];
     let mut out = [0u8; 262144];
-    run(&rt, &mut rt.stdin(), &mut buf, &mut row, &mut out);
+    if let Err(failure) = run(&rt, &mut rt.stdin(), &mut buf, &mut row, &mut out) {
+        say::failed(&rt, failure);
+    }
 }

@@ -11,8 +11,8 @@ use Rattle.record.specs.Record.{size, peak_at, sound}
 use Rattle.params.specs.declared.ImDetectParams.{ImDetectParams}
 use Rattle.params.specs.declared.RowPlace.{RowPlace}
 use Rattle.params.specs.declared.FrameBounds.{FrameBounds}
-use Rattle.params.specs.declared.WindowGroup.{WindowGroup}
-use Rattle.params.specs.declared.WindowGroup.TheVariants.{Missing, Group}
+use Rattle.std.specs.Prelude.{Option}
+use Rattle.std.specs.Prelude.{None, Some}
 
 -- an area's bit pattern, or its number above 32 zero bits
 abbrev pub area_word : Says Float → ℕ
@@ -38,14 +38,14 @@ has_place l k = ltb k (length l / size)
 unfoldable pub sound_word : List ℕ → ℕ → ℕ
 sound_word l k = cond (has_place l k) (cond (sound (peak_at l k)) 1 0) 2
 
-abbrev pub group_of : Bool → ℕ → WindowGroup
-group_of true g = Group g
-group_of false g = Missing
+abbrev pub group_of : Bool → ℕ → Option ℕ
+group_of true g = Some g
+group_of false g = None
 
 abbrev pub place_of : ℕ → ℕ → ℕ → ℕ → RowPlace
 place_of row center lo hi = record { tof_row = row; tof_center = center; tof_lo = lo; tof_hi = hi }
 
-abbrev pub bounds_of : ℕ → ℕ → ℕ → ℕ → WindowGroup → FrameBounds
+abbrev pub bounds_of : ℕ → ℕ → ℕ → ℕ → Option ℕ → FrameBounds
 bounds_of lo hi id-lo id-hi g =
     record { rt_lo = lo; rt_hi = hi; frame_id_lo = id-lo; frame_id_hi = id-hi; window_group = g }
 

@@ -16,7 +16,7 @@ ghost use Rattle.row.specs.RowNumber.{row_number};
 ghost use Rattle.probe.specs.Probe.{area_word, candidate_at, apex_f, has_place, sound_word};
 ghost use Rattle.probe.specs.Probe.{group_of, place_of, bounds_of, params_of, answer_word};
 
-use params::{FrameBounds, ImDetectParams, RowPlace, WindowGroup};
+use params::{FrameBounds, ImDetectParams, RowPlace};
 use record::ImPeak1D;
 
 #[unsafe(no_mangle)]
@@ -116,8 +116,8 @@ pub extern "C" fn probe_area(y: &[f32], x0: f32, x1: f32) -> u64
     ensures { result ≡ area_word (answer_by (area_number y.now x0 x1) (area_f y.now x0 x1)) }
 {
     match area::trapezoid_area_fractional(y, x0, x1) {
-        area::AreaAnswer::Area(a) => numeric::word_of(a) as u64,
-        area::AreaAnswer::Refused(n) => (n as u64) * 4294967296,
+        Ok(a) => numeric::word_of(a) as u64,
+        Err(refusal) => refusal.number() as u64 * 4294967296,
     }
 }
 
@@ -189,14 +189,10 @@ pub extern "C" fn probe_sound(list: &[u32], k: usize) -> u32
     2
 }
 
-pub fn group_of(grouped: bool, window_group: u32) -> WindowGroup
+pub fn group_of(grouped: bool, window_group: u32) -> Option<u32>
     ensures { result ≡ group_of grouped window_group }
 {
-    if grouped {
-        WindowGroup::Group(window_group)
-    } else {
-        WindowGroup::Missing
-    }
+    if grouped { Some(window_group) } else { None }
 }
 
 // The number, 0 for none.
@@ -205,8 +201,8 @@ pub extern "C" fn probe_smooth(v: &mut [f32], weights: &[f32], scratch: &mut [f3
     ensures { result ≡ smooth_number v.old weights.now (length scratch.old) }
 {
     match smoothing::smooth_vector_gaussian(v, weights, scratch) {
-        smoothing::SmoothAnswer::Smoothed => 0,
-        smoothing::SmoothAnswer::Refused(n) => n,
+        Ok(()) => 0,
+        Err(refusal) => refusal.number(),
     }
 }
 
@@ -255,7 +251,7 @@ pub extern "C" fn probe_find_im_peaks_row(
         min_width_scans: min_width,
     };
     match row::find_im_peaks_row(y, z, place, bounds, mobility, p, axis, first, out) {
-        row::RowAnswer::Peaks(n) => (n % 4294967296) as u64 * 64,
-        row::RowAnswer::Refused(n) => n as u64,
+        Ok(n) => (n % 4294967296) as u64 * 64,
+        Err(refusal) => refusal.number() as u64,
     }
 }

@@ -1,5 +1,5 @@
--- What is ranked: how many elements there are, and the pattern of each.
-use mathlib.Core.Path.{◌≡◌, refl, sym, ap, ◌∙◌, subst}
+-- What is ranked: how many words there are, and each of them.
+use mathlib.Core.Path.{◌≡◌, refl, sym, ap, ◌∙◌}
 use mathlib.Core.List.{List, [], ◌∷◌, map}
 use Prim.Native.Nat.{ℕ, zero, suc, ◌+◌, ◌-◌, ◌%◌, ◌≤◌, ◌<◌}
 use native.Mathlib.Numerals.{add-one}
@@ -7,14 +7,11 @@ use native.Mathlib.Omega.{arith}
 use borrow.Author.Tests.{le-leb}
 use lib.ListN.{length, get_or, length-map}
 use lib.Ieee.{Float, nan, binary32}
-use lib.Ieee.Bits.{to_bits-lt}
 use lib.Ieee.Fits.{sub-fits}
 use Rattle.numeric.specs.Arith.{at, ◌⊖◌}
 use Rattle.numeric.specs.Numeric.{abs_f}
-use Rattle.numeric.specs.Plain.{word, AllFit}
-use Rattle.rank.specs.declared.inner.Of.{Of}
-use Rattle.rank.specs.declared.inner.Of.TheVariants.{Readings, From, Steps}
-use Rattle.rank.specs.Rank.{counted, at_most, distances, steps_from, steps, patterns}
+use Rattle.numeric.specs.Plain.{word}
+use Rattle.rank.specs.Rank.{counted, at_most, words, distances, steps_from, steps}
 use Rattle.rank.proofs.Signs.{bits-abs}
 
 pub map_at : {A B : Type 0} (f : A → B) (xs : List A) (i : ℕ) (d : A) (e : B) → i < length xs → get_or (map f xs) i e ≡ f (get_or xs i d)
@@ -44,66 +41,35 @@ unfolding steps
 steps-at [] i h = absurd (omega arith)
 steps-at (x ∷ xs) i h = rw add-one (from_at x xs i (omega arith))
 
--- ---- how many elements
-pub count-readings : (xs : List Float) → length (patterns Readings xs) ≡ length xs
-unfolding patterns
+-- ---- how many words
+pub count-readings : (xs : List Float) → length (words xs) ≡ length xs
 count-readings xs = length-map xs word
 
-pub count-distances : (m : Float) (xs : List Float) → length (patterns (From m) xs) ≡ length xs
-unfolding patterns
+pub count-distances : (m : Float) (xs : List Float) → length (words (distances m xs)) ≡ length xs
 count-distances m xs = length-map (distances m xs) word ∙ length-map xs (λ x. abs_f (x ⊖ m))
 
-pub count-steps : (xs : List Float) → length (patterns Steps xs) ≡ length xs - 1
-unfolding patterns
+pub count-steps : (xs : List Float) → length (words (steps xs)) ≡ length xs - 1
 count-steps xs = length-map (steps xs) word ∙ steps-length xs
 
--- ---- each element
+-- ---- each word
 abs_word : (a b : Float) (w : ℕ) → w ≡ word (a ⊖ b) → w % 0x8000_0000 ≡ word (abs_f (a ⊖ b))
 abs_word a b w e = ap (λ (n : ℕ). n % 0x8000_0000) e ∙ sym (bits-abs (a ⊖ b) (sub-fits binary32 a b))
 
-pub reading-word : (xs : List Float) (i w : ℕ) → i < length xs → w ≡ word (at xs i) → w ≡ get_or (patterns Readings xs) i 0
-unfolding patterns
+pub reading-word : (xs : List Float) (i w : ℕ) → i < length xs → w ≡ word (at xs i) → w ≡ get_or (words xs) i 0
 reading-word xs i w h e = e ∙ sym (map_at word xs i nan 0 h)
 
-pub distance-word : (m : Float) (xs : List Float) (i w : ℕ) → i < length xs → w ≡ word (at xs i ⊖ m) → w % 0x8000_0000 ≡ get_or (patterns (From m) xs) i 0
-unfolding patterns
+pub distance-word : (m : Float) (xs : List Float) (i w : ℕ) → i < length xs → w ≡ word (at xs i ⊖ m) → w % 0x8000_0000 ≡ get_or (words (distances m xs)) i 0
 distance-word m xs i w h e =
     let l : i < length (distances m xs) = rw (length-map xs (λ x. abs_f (x ⊖ m))) h in
     abs_word (at xs i) m w e ∙ sym (map_at word (distances m xs) i nan 0 l ∙ ap word (map_at (λ x. abs_f (x ⊖ m)) xs i nan nan h))
 
-pub step-word : (xs : List Float) (i w : ℕ) → i + 1 < length xs → w ≡ word (at xs (i + 1) ⊖ at xs i) → w % 0x8000_0000 ≡ get_or (patterns Steps xs) i 0
-unfolding patterns
+pub step-word : (xs : List Float) (i w : ℕ) → i + 1 < length xs → w ≡ word (at xs (i + 1) ⊖ at xs i) → w % 0x8000_0000 ≡ get_or (words (steps xs)) i 0
 step-word xs i w h e =
     let l : i < length (steps xs) = rw (steps-length xs) (omega arith) in
     abs_word (at xs (i + 1)) (at xs i) w e ∙ sym (map_at word (steps xs) i nan 0 l ∙ ap word (steps-at xs i h))
 
--- ---- the same where it is told what is ranked
-module _ (of : Of) (xs : List Float) (i : ℕ) where
-  pub in-readings : of ≡ Readings → i < length (patterns of xs) → i < length xs
-  in-readings e h = let n = count-readings xs in let k : i < length (patterns Readings xs) = subst (λ (o : Of). i < length (patterns o xs)) e h in omega arith
-
-  pub in-distances : (m : Float) → of ≡ From m → i < length (patterns of xs) → i < length xs
-  in-distances m e h = let n = count-distances m xs in let k : i < length (patterns (From m) xs) = subst (λ (o : Of). i < length (patterns o xs)) e h in omega arith
-
-  pub in-steps : of ≡ Steps → i < length (patterns of xs) → i + 1 < length xs
-  in-steps e h = let n = count-steps xs in let k : i < length (patterns Steps xs) = subst (λ (o : Of). i < length (patterns o xs)) e h in omega arith
-
--- ---- every element is a number of 32 bits
+-- ---- every word has 32 bits
 pub to-all : (top : ℕ) (ws : List ℕ) → ((i : ℕ) → i < length ws → get_or ws i 0 ≤ top) → at_most top ws ≡ length ws
 unfolding counted
 to-all top [] f = refl
 to-all top (w ∷ ws) f = rw (le-leb w top (f 0 (omega arith)), to-all top ws (λ i h. f (suc i) (omega arith))) (omega arith)
-
-halved : (w v : ℕ) → w % 0x8000_0000 ≡ v → v ≤ 0xffff_ffff
-halved w v e = omega arith
-
-in-word : (of : Of) (xs : List Float) → AllFit xs → (i : ℕ) → i < length (patterns of xs) → get_or (patterns of xs) i 0 ≤ 0xffff_ffff
-in-word Readings xs f i h =
-    let l = in-readings Readings xs i refl h in
-    let b : word (at xs i) < 0x1_0000_0000 = to_bits-lt binary32 (at xs i) (f i l) in
-    subst (λ (n : ℕ). n ≤ 0xffff_ffff) (reading-word xs i (word (at xs i)) l refl) (omega arith)
-in-word (From m) xs f i h = halved _ _ (distance-word m xs i (word (at xs i ⊖ m)) (in-distances (From m) xs i m refl h) refl)
-in-word Steps xs f i h = halved _ _ (step-word xs i (word (at xs (i + 1) ⊖ at xs i)) (in-steps Steps xs i refl h) refl)
-
-pub all_words : (of : Of) (xs : List Float) → AllFit xs → at_most 0xffff_ffff (patterns of xs) ≡ length (patterns of xs)
-all_words of xs f = to-all 0xffff_ffff (patterns of xs) (in-word of xs f)

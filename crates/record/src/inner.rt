@@ -5,6 +5,7 @@ ghost use Rattle.record.specs.Record.{sound_tof, sound_frames, sound_options, so
 
 use super::{ImPeak1D, PeakId};
 
+// Whether an identity is below another, and whether two are the same.
 pub fn id_lt(a: PeakId, b: PeakId) -> bool
     ensures { result ≡ ltb a b }
 {

@@ -3,3 +3,4 @@ pub mod Walk
 pub mod Bools
 pub mod RefusalLaws
 pub mod AnswersLaws
+pub mod NumberedLaws

@@ -2,4 +2,6 @@
 pub mod Refusal
 pub mod RefusalLaws
 pub mod Answers
+pub mod Numbered
+pub mod NumberedLaws
 pub mod AnswersLaws

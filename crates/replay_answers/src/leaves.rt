@@ -2,7 +2,8 @@
 //  1 max  2 min  3 abs  4 clamp  5 floor  6 ceil  7 round  8 x as u32  9 n as f32  10 bits  11 lerp  12 quad_subsample
 //  16 area of two places and a row  17 its number  18 candidate of an index and a row  19 prominence  20 left crossing of the
 //  half height  21 right crossing  22 whether a record is sound
-use super::lines::{Answer, after, floats, plain, short, word};
+use super::lines::{Answer, after, short};
+use hexlines::parts::{between, word};
 
 // The answer of a function of floats, as a bit pattern.
 fn scalar(function: u32, x: f32, y: f32, z: f32) -> u32 {
@@ -66,9 +67,9 @@ fn value(w: &[u32], f: &[f32], last: usize) -> u32 {
     match function {
         8 => numeric::cast_sat(x),
         9 => numeric::word_of(numeric::of_u32(word(w, 1))),
-        16 | 17 => area(function, probe::probe_area(floats(f, 3, last), x, y)),
-        18 | 19 | 20 | 21 => apex(function, floats(f, 2, last), after(w, 1, 0)),
-        22 => probe::probe_sound(plain(w, 1, 28), 0),
+        16 | 17 => area(function, probe::probe_area(between(f, 3, last), x, y)),
+        18 | 19 | 20 | 21 => apex(function, between(f, 2, last), after(w, 1, 0)),
+        22 => probe::probe_sound(between(w, 1, 28), 0),
         _ => scalar(function, x, y, numeric::float_of(word(w, 3))),
     }
 }

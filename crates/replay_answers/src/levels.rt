@@ -7,7 +7,8 @@
 //  places of the lent list; scale, bounds, group (0 or 1, and its number), parameters and first identity; the five lists; then
 //  the number, the count and the words of the list. The scratch must keep what it has, past the columns, or after a refusal
 //  everywhere.
-use super::lines::{Answer, after, floats, front, front_floats, plain, word};
+use super::lines::{Answer, after};
+use hexlines::parts::{between, front, word};
 use params::{FrameBounds, ImDetectParams};
 use tof::TofScale;
 
@@ -90,8 +91,8 @@ fn grid_answer<'a>(
         out,
         scratch,
     ) {
-        grid::GridAnswer::Peaks(n) => (n % 4294967296) as u64 * 64,
-        grid::GridAnswer::Refused(n) => n as u64,
+        Ok(n) => (n % 4294967296) as u64 * 64,
+        Err(refusal) => refusal.number() as u64,
     }
 }
 
@@ -101,11 +102,7 @@ fn peaks(at: usize, r: u64, scratched: usize) -> Answer {
     Answer {
         at,
         head: 2,
-        a: (r % 64) as u32,
-        b: count as u32,
-        c: 0,
-        d: 0,
-        e: 0,
+        words: [(r % 64) as u32, count as u32, 0, 0, 0],
         rest: count as usize * 27,
         scratched: if r % 64 == 0 { scratched } else { 0 },
     }
@@ -119,10 +116,10 @@ pub(crate) fn row(w: &[u32], f: &[f32], out: &mut [u32]) -> Answer {
     let list = front(out, after(w, 5, 0) * 27);
     let r = row_answer(
         w,
-        floats(f, 20, a),
-        floats(f, a, b),
-        plain(w, b, c),
-        floats(f, c, d),
+        between(f, 20, a),
+        between(f, a, b),
+        between(w, b, c),
+        between(f, c, d),
         list,
     );
     peaks(d, r, 0)
@@ -135,14 +132,14 @@ pub(crate) fn grid(w: &[u32], f: &[f32], out: &mut [u32], scratch: &mut [f32]) -
     let d = after(w, 6, c);
     let e = after(w, 7, d);
     let list = front(out, after(w, 9, 0) * 27);
-    let space = front_floats(scratch, after(w, 8, 0));
+    let space = front(scratch, after(w, 8, 0));
     let r = grid_answer(
         w,
-        floats(f, 24, a),
-        floats(f, a, b),
-        plain(w, b, c),
-        floats(f, c, d),
-        floats(f, d, e),
+        between(f, 24, a),
+        between(f, a, b),
+        between(w, b, c),
+        between(f, c, d),
+        between(f, d, e),
         list,
         space,
     );
@@ -152,9 +149,9 @@ pub(crate) fn grid(w: &[u32], f: &[f32], out: &mut [u32], scratch: &mut [f32]) -
 // The row of a line of smoothing; none of other lines.
 pub(crate) fn row_to_smooth(w: &[u32]) -> &[u32] {
     if word(w, 0) == 33 {
-        return plain(w, 4, after(w, 1, 4));
+        return between(w, 4, after(w, 1, 4));
     }
-    plain(w, 0, 0)
+    between(w, 0, 0)
 }
 
 pub(crate) fn smoothing(w: &[u32], f: &[f32], v: &mut [f32], scratch: &mut [f32]) -> Answer {
@@ -162,19 +159,11 @@ pub(crate) fn smoothing(w: &[u32], f: &[f32], v: &mut [f32], scratch: &mut [f32]
     let a = after(w, 1, 4);
     let b = after(w, 2, a);
     let k = after(w, 3, 0);
-    let number = probe::probe_smooth(
-        front_floats(v, n),
-        floats(f, a, b),
-        front_floats(scratch, k),
-    );
+    let number = probe::probe_smooth(front(v, n), between(f, a, b), front(scratch, k));
     Answer {
         at: b,
         head: 1,
-        a: number,
-        b: 0,
-        c: 0,
-        d: 0,
-        e: 0,
+        words: [number, 0, 0, 0, 0],
         rest: n,
         scratched: k,
     }

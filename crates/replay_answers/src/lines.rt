@@ -1,5 +1,7 @@
-// Parts of a line, and its comparison with an answer. Past the end of a line every word is 0.
+// An answer, and its comparison with a line.
 ghost use Rattle.std.specs.Prelude.{◌≤◌};
+
+use hexlines::parts::{between, word};
 
 // The words that a line may have.
 pub(crate) const ROOM: usize = 4096;
@@ -10,11 +12,7 @@ pub(crate) const ROOM: usize = 4096;
 pub(crate) struct Answer {
     pub at: usize,
     pub head: usize,
-    pub a: u32,
-    pub b: u32,
-    pub c: u32,
-    pub d: u32,
-    pub e: u32,
+    pub words: [u32; 5],
     pub rest: usize,
     pub scratched: usize,
 }
@@ -24,79 +22,22 @@ pub(crate) fn short(at: usize, head: usize, a: u32, b: u32, c: u32) -> Answer {
     Answer {
         at,
         head,
-        a,
-        b,
-        c,
-        d: 0,
-        e: 0,
+        words: [a, b, c, 0, 0],
         rest: 0,
         scratched: 0,
     }
-}
-
-pub(crate) fn word(words: &[u32], i: usize) -> u32 {
-    if i < words.len() { words[i] } else { 0 }
 }
 
 // The end of a list that starts at a place and whose length is word i; past every line where the line is too short.
 pub(crate) fn after(words: &[u32], i: usize, at: usize) -> usize
     ensures { result ≤ 8192 }
 {
-    let n = word(words, i);
-    if at <= ROOM {
-        if n <= 4096 {
-            return at + n as usize;
-        }
-    }
-    8192
-}
-
-// The list between two places, empty where there is none.
-pub(crate) fn plain(list: &[u32], from: usize, to: usize) -> &[u32] {
-    if to <= list.len() {
-        if from <= to {
-            return &list[from..to];
-        }
-    }
-    &list[..0]
-}
-
-pub(crate) fn floats(list: &[f32], from: usize, to: usize) -> &[f32] {
-    if to <= list.len() {
-        if from <= to {
-            return &list[from..to];
-        }
-    }
-    &list[..0]
-}
-
-// The front of a lent list, all of it where it is shorter.
-pub(crate) fn front(list: &mut [u32], n: usize) -> &mut [u32] {
-    if n <= list.len() {
-        return &mut list[..n];
-    }
-    list
-}
-
-pub(crate) fn front_floats(list: &mut [f32], n: usize) -> &mut [f32] {
-    if n <= list.len() {
-        return &mut list[..n];
-    }
-    list
-}
-
-// Words as floats, 0.0 past them.
-pub(crate) fn spread(words: &[u32]) -> [f32; ROOM] {
-    let mut f = [0f32; ROOM];
-    for i in 0..ROOM {
-        f[i] = numeric::float_of(word(words, i));
-    }
-    f
+    hexlines::parts::after::<ROOM>(words, i, at)
 }
 
 // Whether words are those of a list, or bit patterns of floats where the list is all 0, and 0 past them; and whether scratch has
 // 7.0 from a place on.
-pub(crate) fn same(
+fn same(
     words: &[u32],
     list: &[u32; ROOM],
     v: &[f32; ROOM],
@@ -120,15 +61,11 @@ pub(crate) fn judged(
     v: &[f32; ROOM],
     scratch: &[f32; ROOM],
 ) -> bool {
-    let end = plain(words, a.at, words.len());
-    let head = plain(end, 0, a.head);
-    let rest = plain(end, a.head, end.len());
-    (head.len() == a.head)
+    let end = between(words, a.at, words.len());
+    let head = between(end, 0, a.head);
+    let rest = between(end, a.head, end.len());
+    (head == between(&a.words, 0, a.head))
+        & (head.len() == a.head)
         & (rest.len() == a.rest)
-        & (word(head, 0) == a.a)
-        & (word(head, 1) == a.b)
-        & (word(head, 2) == a.c)
-        & (word(head, 3) == a.d)
-        & (word(head, 4) == a.e)
         & same(rest, list, v, scratch, a.scratched)
 }

@@ -7,10 +7,8 @@ mod levels;
 mod lines;
 mod scales;
 
-ghost use Rattle.std.specs.Prelude.{◌≤◌, ◌<◌, length};
-
-use hexlines::{Reading, Tally};
-use std::io::Read;
+use hexlines::parts::{spread, word};
+use lines::ROOM;
 
 // The port's answer to a line; the floats of the line and the row to smooth are handed in.
 fn answer(
@@ -20,7 +18,7 @@ fn answer(
     out: &mut [u32],
     scratch: &mut [f32],
 ) -> lines::Answer {
-    let function = lines::word(w, 0);
+    let function = word(w, 0);
     if function < 32 {
         return leaves::leaf(w, f);
     }
@@ -34,65 +32,17 @@ fn answer(
 }
 
 fn agrees(words: &[u32]) -> bool {
-    let f = lines::spread(words);
-    let mut v = lines::spread(levels::row_to_smooth(words));
-    let mut out = [0u32; lines::ROOM];
-    let mut scratch = [7f32; lines::ROOM];
+    let f: [f32; ROOM] = spread(words);
+    let mut v: [f32; ROOM] = spread(levels::row_to_smooth(words));
+    let mut out = [0u32; ROOM];
+    let mut scratch = [7f32; ROOM];
     let a = answer(words, &f, &mut v, &mut out, &mut scratch);
     lines::judged(words, a, &out, &v, &scratch)
 }
 
-// Counts a line that has ended.
-fn counted(t: Tally, words: &[u32]) -> Tally {
-    hexlines::counted(t, words, agrees(words))
-}
-
-// What has been read, and what has been counted.
-#[derive(Clone, Copy)]
-struct State {
-    reading: Reading,
-    tally: Tally,
-}
-
-fn feed_all(line: &mut [u32], s: State, bytes: &[u8]) -> State
-    requires { s.reading.words ≤ length line.old }
-    ensures { result.reading.words ≤ length line.old }
-{
-    let mut reading = s.reading;
-    let mut tally = s.tally;
-    for i in 0..bytes.len() {
-        reading = hexlines::feed(line, reading, bytes[i]);
-        if reading.ended {
-            let n = reading.words;
-            tally = counted(tally, &line[..n]);
-        }
-    }
-    State { reading, tally }
-}
-
 fn main(rt: HostRuntime) {
-    let mut line = [0u32; lines::ROOM];
-    let mut s = State {
-        reading: hexlines::start(),
-        tally: Tally {
-            lines: 0,
-            differ: 0,
-        },
-    };
-    let mut buf = [0u8; 65536];
-    let mut input = rt.stdin();
-    let mut turns = u64::MAX;
-    while turns > 0 {
-        turns -= 1;
-        let Ok(k) = input.read(&mut buf) else {
-            break;
-        };
-        if k == 0 {
-            break;
-        }
-        s = feed_all(&mut line, s, &buf[..k]);
-    }
-    let lines = s.tally.lines;
-    let differ = s.tally.differ;
-    let _ = println!(rt; "{lines} answers replayed, {differ} differ");
+    let tally = hexlines::replay::replay_all::<{ lines::ROOM }, _>(&mut rt.stdin(), |words| {
+        agrees(words)
+    });
+    let _ = println!(rt; "{tally}");
 }

@@ -8,32 +8,35 @@
 //  43, center: a bin; then kind, centre and 0.
 //  44, center_at: a place between bins; then kind, centre and 0.
 //  45, tof_bounds_for_row: a bin; then kind, low and high edge.
-use super::lines::{Answer, after, plain, short, word};
+use super::lines::{Answer, after, short};
+use hexlines::parts::{between, word};
+use refusal::Refusal;
 use tof::TofScale;
+
+// What stands for a refusal.
+fn refused(at: usize, head: usize, refusal: Refusal) -> Answer {
+    short(at, head, 2, refusal.number(), 0)
+}
 
 pub(crate) fn build(w: &[u32]) -> Answer {
     let at = after(w, 2, 3);
-    match TofScale::build_from_frames(plain(w, 3, at), word(w, 1)) {
-        tof::BuildAnswer::Scale(s) => Answer {
+    match TofScale::build_from_frames(between(w, 3, at), word(w, 1)) {
+        Ok(Some(s)) => Answer {
             at,
             head: 5,
-            a: 0,
-            b: s.tof_min,
-            c: s.tof_max,
-            d: s.tof_step,
-            e: s.num_bins,
+            words: [0, s.tof_min, s.tof_max, s.tof_step, s.num_bins],
             rest: 0,
             scratched: 0,
         },
-        tof::BuildAnswer::NoScale => short(at, 5, 1, 0, 0),
-        tof::BuildAnswer::Refused(n) => short(at, 5, 2, n, 0),
+        Ok(None) => short(at, 5, 1, 0, 0),
+        Err(refusal) => refused(at, 5, refusal),
     }
 }
 
-fn center(r: tof::CenterAnswer) -> Answer {
+fn center(r: Result<f32, Refusal>) -> Answer {
     match r {
-        tof::CenterAnswer::Center(x) => short(6, 3, 0, numeric::word_of(x), 0),
-        tof::CenterAnswer::Refused(n) => short(6, 3, 2, n, 0),
+        Ok(x) => short(6, 3, 0, numeric::word_of(x), 0),
+        Err(refusal) => refused(6, 3, refusal),
     }
 }
 
@@ -47,25 +50,19 @@ pub(crate) fn scale(w: &[u32]) -> Answer {
     let x = word(w, 5);
     match word(w, 0) {
         41 => match s.index_of_tof(x) {
-            tof::BinAnswer::Bin(i) => short(6, 3, 0, i, 0),
-            tof::BinAnswer::NoBin => short(6, 3, 1, 0, 0),
-            tof::BinAnswer::Refused(n) => short(6, 3, 2, n, 0),
+            Ok(Some(i)) => short(6, 3, 0, i, 0),
+            Ok(None) => short(6, 3, 1, 0, 0),
+            Err(refusal) => refused(6, 3, refusal),
         },
         42 => match s.index_range_for_tof_window(x, word(w, 6)) {
-            tof::RangeAnswer::Range(lo, hi) => short(7, 3, 0, lo, hi),
-            tof::RangeAnswer::Refused(n) => short(7, 3, 2, n, 0),
+            Ok(bins) => short(7, 3, 0, bins.lo, bins.hi),
+            Err(refusal) => refused(7, 3, refusal),
         },
         43 => center(s.center(x)),
         44 => center(s.center_at(numeric::float_of(x))),
         45 => match s.tof_bounds_for_row(x) {
-            tof::BoundsAnswer::Bounds(lo, hi) => short(
-                6,
-                3,
-                0,
-                numeric::word_of(lo),
-                numeric::word_of(hi),
-            ),
-            tof::BoundsAnswer::Refused(n) => short(6, 3, 2, n, 0),
+            Ok((lo, hi)) => short(6, 3, 0, numeric::word_of(lo), numeric::word_of(hi)),
+            Err(refusal) => refused(6, 3, refusal),
         },
         _ => short(0, 0, 0, 0, 0),
     }

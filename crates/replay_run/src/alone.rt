@@ -3,7 +3,8 @@
 // are lent for records and scratch; the three lists. Then the number, the count, and the records. 9, the fallback: the lengths of
 // the trace, frame numbers, times and record; fraction and first identity; the words that are lent; the four lists. Then the number,
 // the count, and the record.
-use super::lines::{BEFORE, ROOM, after, floats, front, has, kept, plain, word};
+use super::lines::{BEFORE, ROOM, after, has, kept};
+use hexlines::parts::{between, front, word};
 
 // Whether an answer is the word of the number at a place and the count behind it.
 pub(crate) fn answers(w: &[u32], at: usize, r: u64) -> bool {
@@ -14,9 +15,9 @@ pub(crate) fn answers(w: &[u32], at: usize, r: u64) -> bool {
 // The words behind them.
 pub(crate) fn written(w: &[u32], at: usize) -> &[u32] {
     if at < ROOM {
-        return plain(w, at + 2, w.len());
+        return between(w, at + 2, w.len());
     }
-    plain(w, 0, 0)
+    between(w, 0, 0)
 }
 
 // What of scratch may have changed: so many places of an accepted call.
@@ -29,7 +30,7 @@ pub(crate) fn noise_agrees(w: &[u32], f: &[f32]) -> bool {
     answers(
         w,
         a,
-        rtapi::trace::rubzolena_robust_noise_mad(floats(f, 2, a)),
+        rtapi::trace::rubzolena_robust_noise_mad(between(f, 2, a)),
     )
 }
 
@@ -40,9 +41,9 @@ pub(crate) fn search_agrees(w: &[u32], f: &[f32]) -> bool {
     let mut out = [BEFORE; ROOM];
     let mut scratch = [BEFORE; ROOM];
     let r = rtapi::search::rubzolena_find_rt_peaks(
-        floats(f, 10, a),
-        floats(f, a, b),
-        floats(f, b, c),
+        between(f, 10, a),
+        between(f, a, b),
+        between(f, b, c),
         word(w, 4),
         numeric::float_of(word(w, 5)),
         numeric::float_of(word(w, 6)),
@@ -60,10 +61,10 @@ pub(crate) fn fallback_agrees(w: &[u32], f: &[f32]) -> bool {
     let d = after(w, 4, c);
     let mut out = [BEFORE; ROOM];
     let r = rtapi::single::rubzolena_fallback_rt_peak(
-        floats(f, 8, a),
-        plain(w, a, b),
-        floats(f, b, c),
-        plain(w, c, d),
+        between(f, 8, a),
+        between(w, a, b),
+        between(f, b, c),
+        between(w, c, d),
         numeric::float_of(word(w, 5)),
         word(w, 6),
         front(&mut out, word(w, 7) as usize),

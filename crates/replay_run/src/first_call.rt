@@ -1,6 +1,7 @@
 // A line of the first call: 10; the lengths of record, frame numbers and times; the nine numbers of the parameters; the words that are
 // lent; the three lists. Then the number, the count, and the window.
-use super::lines::{BEFORE, ROOM, after, floats, front, has, plain, word};
+use super::lines::{BEFORE, ROOM, after, has};
+use hexlines::parts::{between, front, word};
 
 pub(crate) fn agrees(w: &[u32], f: &[f32]) -> bool {
     let a = after(w, 1, 14);
@@ -8,9 +9,9 @@ pub(crate) fn agrees(w: &[u32], f: &[f32]) -> bool {
     let c = after(w, 3, b);
     let mut out = [BEFORE; ROOM];
     let r = rtapi::window::rubzolena_expand_window(
-        plain(w, 14, a),
-        plain(w, a, b),
-        floats(f, b, c),
+        between(w, 14, a),
+        between(w, a, b),
+        between(f, b, c),
         word(w, 4),
         numeric::float_of(word(w, 5)),
         word(w, 6),

@@ -1,8 +1,7 @@
 // A line of a frame: 1; the lengths of its TOF values, scans and readings; the scale, the count of scans and the points before it; the
 // words that are lent of the seven lists; the three lists. Then the number, the counts of bins, offsets and points, and these.
-use super::lines::{
-    BEFORE, ROOM, after, floats, front, front_floats, has, kept, patterns, plain, plus, word,
-};
+use super::lines::{BEFORE, ROOM, after, has, kept, patterns, plus};
+use hexlines::parts::{between, front, word};
 
 pub(crate) fn agrees(w: &[u32], f: &[f32]) -> bool {
     let a = after(w, 1, 17);
@@ -16,9 +15,9 @@ pub(crate) fn agrees(w: &[u32], f: &[f32]) -> bool {
     let mut order = [BEFORE; ROOM];
     let mut spare = [BEFORE; ROOM];
     let r = framesapi::view::rubzolena_build_frame_bin_view(
-        plain(w, 17, a),
-        plain(w, a, b),
-        floats(f, b, c),
+        between(w, 17, a),
+        between(w, a, b),
+        between(f, b, c),
         word(w, 4),
         word(w, 5),
         word(w, 6),
@@ -28,7 +27,7 @@ pub(crate) fn agrees(w: &[u32], f: &[f32]) -> bool {
         front(&mut bins, word(w, 10) as usize),
         front(&mut offsets, word(w, 11) as usize),
         front(&mut scans, word(w, 12) as usize),
-        front_floats(&mut readings, word(w, 13) as usize),
+        front(&mut readings, word(w, 13) as usize),
         front(&mut keys, word(w, 14) as usize),
         front(&mut order, word(w, 15) as usize),
         front(&mut spare, word(w, 16) as usize),
@@ -44,10 +43,10 @@ pub(crate) fn agrees(w: &[u32], f: &[f32]) -> bool {
     };
     (r == (word(w, plus(c, 1)) as u64) * 64 + word(w, c) as u64)
         & (j == w.len())
-        & has(&bins, plain(w, plus(c, 4), g))
-        & has(&offsets, plain(w, g, h))
-        & has(&scans, plain(w, h, i))
-        & has(&patterns(&readings), plain(w, i, j))
+        & has(&bins, between(w, plus(c, 4), g))
+        & has(&offsets, between(w, g, h))
+        & has(&scans, between(w, h, i))
+        & has(&patterns(&readings), between(w, i, j))
         & kept(&keys, used)
         & kept(&order, used)
         & kept(&spare, used)

@@ -2,9 +2,8 @@
 // times, weights and lengths; the scale, the nine numbers of the parameters, and the first identity; the words that are lent for
 // records, counts and the three lists of scratch; the ten lists. Then the number, the count, the length of the column of counts, the
 // column, and the records.
-use super::lines::{
-    BEFORE, ROOM, after, floats, front, front_floats, has, kept, patterns, plain, plus, word,
-};
+use super::lines::{BEFORE, ROOM, after, has, kept, patterns, plus};
+use hexlines::parts::{between, front, word};
 
 // Where the ten lists of a line end; the first starts at word 30.
 #[derive(Clone, Copy)]
@@ -61,14 +60,14 @@ fn answer_one(
     order: &mut [u32],
 ) -> u64 {
     expandapi::one::rubzolena_expand_im_peak(
-        plain(w, 30, e.list),
-        plain(w, e.list, e.starts),
-        plain(w, e.starts, e.bins),
-        plain(w, e.bins, e.offsets),
-        plain(w, e.offsets, e.scans),
-        floats(f, e.scans, e.readings),
-        plain(w, e.readings, e.ids),
-        floats(f, e.ids, e.times),
+        between(w, 30, e.list),
+        between(w, e.list, e.starts),
+        between(w, e.starts, e.bins),
+        between(w, e.bins, e.offsets),
+        between(w, e.offsets, e.scans),
+        between(f, e.scans, e.readings),
+        between(w, e.readings, e.ids),
+        between(f, e.ids, e.times),
         word(w, 11),
         word(w, 12),
         word(w, 13),
@@ -82,7 +81,7 @@ fn answer_one(
         word(w, 21),
         float(w, 22),
         word(w, 23),
-        floats(f, e.times, e.weights),
+        between(f, e.times, e.weights),
         word(w, 24),
         out,
         raw,
@@ -103,14 +102,14 @@ fn answer_many(
     order: &mut [u32],
 ) -> u64 {
     expandapi::many::rubzolena_expand_many_im_peaks(
-        plain(w, 30, e.list),
-        plain(w, e.list, e.starts),
-        plain(w, e.starts, e.bins),
-        plain(w, e.bins, e.offsets),
-        plain(w, e.offsets, e.scans),
-        floats(f, e.scans, e.readings),
-        plain(w, e.readings, e.ids),
-        floats(f, e.ids, e.times),
+        between(w, 30, e.list),
+        between(w, e.list, e.starts),
+        between(w, e.starts, e.bins),
+        between(w, e.bins, e.offsets),
+        between(w, e.offsets, e.scans),
+        between(f, e.scans, e.readings),
+        between(w, e.readings, e.ids),
+        between(f, e.ids, e.times),
         word(w, 11),
         word(w, 12),
         word(w, 13),
@@ -124,8 +123,8 @@ fn answer_many(
         word(w, 21),
         float(w, 22),
         word(w, 23),
-        floats(f, e.times, e.weights),
-        plain(w, e.weights, e.lengths),
+        between(f, e.times, e.weights),
+        between(w, e.weights, e.lengths),
         word(w, 24),
         out,
         counts,
@@ -144,8 +143,8 @@ pub(crate) fn agrees(w: &[u32], f: &[f32]) -> bool {
     let mut order = [BEFORE; ROOM];
     let lent_out = front(&mut out, word(w, 25) as usize);
     let lent_counts = front(&mut counts, word(w, 26) as usize);
-    let lent_raw = front_floats(&mut raw, word(w, 27) as usize);
-    let lent_smooth = front_floats(&mut smooth, word(w, 28) as usize);
+    let lent_raw = front(&mut raw, word(w, 27) as usize);
+    let lent_smooth = front(&mut smooth, word(w, 28) as usize);
     let lent_order = front(&mut order, word(w, 29) as usize);
     let r = if word(w, 0) == 11 {
         answer_one(w, f, e, lent_out, lent_raw, lent_smooth, lent_order)
@@ -170,8 +169,8 @@ pub(crate) fn agrees(w: &[u32], f: &[f32]) -> bool {
     };
     (r == (word(w, plus(at, 1)) as u64) * 64 + word(w, at) as u64)
         & (column <= w.len())
-        & has(&counts, plain(w, plus(at, 3), column))
-        & has(&out, plain(w, column, w.len()))
+        & has(&counts, between(w, plus(at, 3), column))
+        & has(&out, between(w, column, w.len()))
         & kept(&patterns(&raw), used)
         & kept(&patterns(&smooth), used)
         & kept(&order, used)

@@ -2,9 +2,8 @@
 // of many peaks; the lengths of starts, bins, offsets, scans and readings; the floats and the words of scratch that are lent; the length
 // of the list of peaks; nine numbers, as the function takes them, and 0 for those that it does not take; the six lists. Then the number, the
 // count, the count of the sums, and these.
-use super::lines::{
-    BEFORE, ROOM, after, floats, front, front_floats, has, kept, patterns, plain, plus, word,
-};
+use super::lines::{BEFORE, ROOM, after, has, kept, patterns, plus};
+use hexlines::parts::{between, front, word};
 
 // The word of the C entry, for the lists of a line.
 fn answer(
@@ -68,13 +67,13 @@ pub(crate) fn agrees(w: &[u32], f: &[f32]) -> bool {
     let mut windows = [BEFORE; ROOM];
     let r = answer(
         w,
-        plain(w, 18, a),
-        plain(w, a, b),
-        plain(w, b, c),
-        plain(w, c, d),
-        floats(f, d, e),
-        plain(w, e, g),
-        front_floats(&mut out, word(w, 6) as usize),
+        between(w, 18, a),
+        between(w, a, b),
+        between(w, b, c),
+        between(w, c, d),
+        between(f, d, e),
+        between(w, e, g),
+        front(&mut out, word(w, 6) as usize),
         front(&mut windows, word(w, 7) as usize),
     );
     let h = after(w, plus(g, 2), plus(g, 3));
@@ -85,6 +84,6 @@ pub(crate) fn agrees(w: &[u32], f: &[f32]) -> bool {
     };
     (r == (word(w, plus(g, 1)) as u64) * 64 + word(w, g) as u64)
         & (h == w.len())
-        & has(&patterns(&out), plain(w, plus(g, 3), h))
+        & has(&patterns(&out), between(w, plus(g, 3), h))
         & kept(&windows, used)
 }

@@ -1,14 +1,14 @@
 -- Laws of lists that are the same, and of parts.
 use mathlib.Core.Path.{◌≡◌, refl, sym, ap, ◌∙◌}
 use mathlib.Core.Bool.{Bool, true, false, cond, ◌&&◌}
-use mathlib.Core.List.{List, [], ◌∷◌, ◌++◌, foldl}
+use mathlib.Core.List.{List, [], ◌∷◌, ◌++◌}
 use Prim.Native.Nat.{ℕ, zero, suc, ◌+◌, ◌-◌, ◌*◌, ◌/◌, ◌%◌, ◌≤◌, ◌<◌, min}
 use native.Mathlib.Omega.{arith}
-use native.Mathlib.Numerals.{add-one}
-use borrow.Author.Tests.{eq-eqb, ne_eqb, eqb-true, eqb-false}
+use borrow.Author.Tests.{ne_eqb, eqb-true, eqb-false}
 use lib.Dec.{eqb}
-use lib.ListN.{length, get_or, take, drop, drop_of_length-le, length-drop, length-map}
-use lib.Seq.{drop-cons, take_all, drop-drop, take-append_seam, length-take-le}
+use Rattle.std.specs.Cmp.Lexicographic.{pointwise}
+use lib.ListN.{length, take, drop, drop_of_length-le, length-drop, length-map}
+use lib.Seq.{take_all, drop-drop, take-append_seam, length-take-le}
 use Rattle.record.specs.Record.{size}
 use Rattle.record.specs.declared.ImPeak1D.{ImPeak1D}
 use Rattle.peaklist.specs.PeakList.{list_words}
@@ -25,37 +25,14 @@ use Rattle.capi.specs.Stitching.{Answered}
 use Rattle.replay_stitching.specs.Replay.{word, room, rooms_in, list_in, params_in, told_in, answer_to, same, agrees_in}
 use Rattle.replay_stitching.specs.Steps.{owners_by, has_in}
 
--- ---- a word past the end
-
-pub past_end : (l : List ℕ) (i : ℕ) → length l ≤ i → get_or l i 0 ≡ 0
-past_end [] i h = refl
-past_end (x ∷ xs) zero h = absurd (omega arith)
-past_end (x ∷ xs) (suc i) h = past_end xs i (omega arith)
-
 -- ---- lists that are the same
 
-pub other_length : (a b : List ℕ) → (length a ≡ length b → ⊥) → same a b ≡ false
+pub compared : (a b : List ℕ) → pointwise eqb a b ≡ same a b
 unfolding same
-other_length [] [] h = absurd (h refl)
-other_length [] (y ∷ ys) h = refl
-other_length (x ∷ xs) [] h = refl
-other_length (x ∷ xs) (y ∷ ys) h = rw (other_length xs ys (λ e. h (ap suc e))) (and-false (eqb x y))
-  where
-    and-false : (b : Bool) → (b && false) ≡ false
-    and-false true = refl
-    and-false false = refl
-
-pub same_next : (a b : List ℕ) (i : ℕ) → i < length a → i < length b → get_or a i 0 ≡ get_or b i 0 → same (drop i a) (drop i b) ≡ same (drop (i + 1) a) (drop (i + 1) b)
-unfolding same
-same_next a b i h k e = rw (drop-cons a i 0 h, drop-cons b i 0 k, add-one, eq-eqb _ _ e)
-
-pub differ-here : (a b : List ℕ) (i : ℕ) → i < length a → i < length b → (get_or a i 0 ≡ get_or b i 0 → ⊥) → same (drop i a) (drop i b) ≡ false
-unfolding same
-differ-here a b i h k e = rw (drop-cons a i 0 h, drop-cons b i 0 k, ne_eqb _ _ e)
-
-pub same_end : (a b : List ℕ) (i : ℕ) → length a ≤ i → length b ≤ i → same (drop i a) (drop i b) ≡ true
-unfolding same
-same_end a b i h k = rw (drop_of_length-le a h, drop_of_length-le b k)
+compared [] [] = refl
+compared [] (y ∷ ys) = refl
+compared (x ∷ xs) [] = refl
+compared (x ∷ xs) (y ∷ ys) = ap (λ (z : Bool). eqb x y && z) (compared xs ys)
 
 and_assoc : (a b c : Bool) → (a && (b && c)) ≡ (a && b && c)
 and_assoc true b c = refl
@@ -102,14 +79,6 @@ pub rooms-are : (line a b c d e f : List ℕ) (i j k l m n : ℕ) → length a �
     → n ≡ min (word line 6) room → rooms_of (lent (take i a) (take j b) (take k c) (take l d) (take m e) (take n f)) ≡ rooms_in line
 rooms-are line a b c d e f i j k l m n ha hb hc hd he hf hi hj hk hl hm hn =
     rw (lent-words a i (word line 1) ha hi, lent-words b j (word line 2) hb hj, lent-words c k (word line 3) hc hk, lent-words d l (word line 4) hd hl, lent-words e m (word line 5) he hm, lent-words f n (word line 6) hf hn)
-
--- ---- bytes
-
-pub fold_next : {A : Type 0} (f : A → ℕ → A) (z : A) (l : List ℕ) (i : ℕ) → i < length l → foldl f z (drop i l) ≡ foldl f (f z (get_or l i 0)) (drop (i + 1) l)
-fold_next f z l i h = rw (drop-cons l i 0 h, add-one)
-
-pub fold_end : {A : Type 0} (f : A → ℕ → A) (z : A) (l : List ℕ) (i : ℕ) → length l ≤ i → foldl f z (drop i l) ≡ z
-fold_end f z l i h = rw (drop_of_length-le l h)
 
 -- ---- a line
 

@@ -1,8 +1,6 @@
 -- What the steps of the replay answer.
 use Rattle.std.specs.Prelude.{Bool, cond, ◌&&◌, List, [], ◌∷◌, ℕ, ◌+◌, ◌*◌, ◌/◌, ◌%◌, eqb, take, drop}
-use Rattle.hexlines.specs.Lines.{Replay, line_of}
 use Rattle.record.specs.Record.{size}
-use Rattle.replay_stitching.specs.declared.State.{State}
 use Rattle.replay_stitching.specs.Replay.{same}
 
 -- how many owners there are: as many as peaks, where the entry answers r, which is a count, to a list of so many words; else none
@@ -14,7 +12,3 @@ unfoldable pub has_in : List ℕ → ℕ → List ℕ → List ℕ → ℕ → B
 has_in rest r out owners m =
     let k = r / 64 * size in
     same (take 2 rest) (r % 64 ∷ r / 64 % 4294967296 ∷ []) && same (take k (drop 2 rest)) (take k out) && same (drop (2 + k) rest) (take m owners)
-
--- what is read, in a line whose words stand at the front of a list, and what is counted
-abbrev pub replay_of : State → List ℕ → Replay
-replay_of s list = record { line = line_of s.reading list; tally = s.tally }

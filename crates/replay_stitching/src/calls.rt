@@ -1,14 +1,13 @@
 // The call of a line, and whether the line has its answer.
 ghost use Rattle.std.specs.Prelude.{◌≡◌};
-ghost use Rattle.hexlines.specs.Lines.{counting};
 ghost use Rattle.stitch.specs.Answer.{rooms_of};
 ghost use Rattle.stitch.specs.Answer.{lent as lists};
 ghost use Rattle.capi.specs.Stitching.{Answered};
 ghost use Rattle.replay_stitching.specs.Replay.{params_in, told_in, agrees_in, agrees};
 ghost use Rattle.replay_stitching.specs.Steps.{owners_by, has_in};
 
-use super::words::{ROOM, are_same, lent, part, word};
-use hexlines::Tally;
+use super::words::{ROOM, lent, part};
+use hexlines::parts::word;
 
 // The answer of the C entry.
 fn answer(
@@ -56,11 +55,11 @@ fn owners_by(r: u64, words: usize) -> usize
 fn has(rest: &[u32], r: u64, out: &[u32], owners: &[u32], m: usize) -> bool
     ensures { result ≡ has_in rest.now r out.now owners.now m }
 {
-    let head = [(r % 64) as u32, (r / 64 % 4294967296) as u32];
+    let head: &[u32] = &[(r % 64) as u32, (r / 64 % 4294967296) as u32];
     let k = (r / 64) as usize * 27;
-    are_same(part(rest, 0, 2), &head)
-        & are_same(part(rest, 2, k), part(out, 0, k))
-        & are_same(part(rest, 2 + k, rest.len()), part(owners, 0, m))
+    (part(rest, 0, 2) == head)
+        & (part(rest, 2, k) == part(out, 0, k))
+        & (part(rest, 2 + k, rest.len()) == part(owners, 0, m))
 }
 
 // Whether a line has its answer, with those lists lent.
@@ -84,7 +83,7 @@ fn judged(
 }
 
 // Whether a line has its answer.
-fn is_right(line: &[u32]) -> bool
+pub(crate) fn is_right(line: &[u32]) -> bool
     ensures { result ≡ agrees line.now }
 {
     let mut out = [0u32; ROOM];
@@ -108,11 +107,4 @@ fn is_right(line: &[u32]) -> bool
         &mut keys[..e],
         &mut merged[..f],
     )
-}
-
-// Counts a line that has ended.
-pub(crate) fn count(t: Tally, line: &[u32]) -> Tally
-    ensures { result ≡ counting t line.now (agrees line.now) }
-{
-    hexlines::counted(t, line, is_right(line))
 }

@@ -5,74 +5,23 @@
 mod calls;
 mod words;
 
-ghost use Rattle.std.specs.Prelude.{◌≡◌, ◌≤◌, length};
-ghost use mathlib.Core.List.{foldl};
-ghost use Rattle.hexlines.specs.Lines.{replayed};
-ghost use Rattle.replay_stitching.specs.Replay.{agrees};
-ghost use Rattle.replay_stitching.specs.Steps.{replay_of};
+ghost use Rattle.std.specs.Prelude.{◌≡◌, ℕ, List};
+ghost use Rattle.std.specs.List.{fold};
+ghost use Rattle.hexlines.specs.Lines.{at_start, replayed};
+ghost use Rattle.replay_stitching.specs.Replay.{room, agrees};
 
-use hexlines::{Reading, Tally};
+use hexlines::replay::{Tally, replay_all};
 use std::io::Read;
 
-// What has been read, and what has been counted.
-#[derive(Clone, Copy)]
-struct State {
-    reading: Reading,
-    tally: Tally,
-}
-
-// One byte more; a line that has ended is counted.
-fn feed(line: &mut [u32], s: State, b: u8) -> State
-    requires { s.reading.words ≤ length line.old }
-    ensures room { result.reading.words ≤ length line.old }
-    ensures counted { replay_of result line.new ≡ replayed agrees (length line.old) (replay_of s line.old) b }
+// Counts the lines that are read, and those among them that do not have their answer. The contract speaks of some bytes: it cannot say that they
+// are those of the input.
+fn replay(input: &mut impl Read) -> Tally
+    ensures { (bytes : List ℕ) × (result ≡ (fold (replayed agrees room) at_start bytes).tally) }
 {
-    let before = s.reading;
-    let tally = s.tally;
-    let reading = hexlines::feed(line, before, b);
-    if reading.ended {
-        let n = reading.words;
-        let tally = calls::count(tally, &line[..n]);
-        return State { reading, tally };
-    }
-    State { reading, tally }
-}
-
-fn feed_all(line: &mut [u32], s: State, bytes: &[u8]) -> State
-    requires { s.reading.words ≤ length line.old }
-    ensures room { result.reading.words ≤ length line.old }
-    ensures counted { replay_of result line.new ≡ foldl (replayed agrees (length line.old)) (replay_of s line.old) bytes.now }
-{
-    let mut now = s;
-    for i in 0..bytes.len() {
-        now = feed(line, now, bytes[i]);
-    }
-    now
+    replay_all::<{ words::ROOM }, _>(input, |line| calls::is_right(line))
 }
 
 fn main(rt: HostRuntime) {
-    let mut line = [0u32; words::ROOM];
-    let mut s = State {
-        reading: hexlines::start(),
-        tally: Tally {
-            lines: 0,
-            differ: 0,
-        },
-    };
-    let mut buf = [0u8; 65536];
-    let mut input = rt.stdin();
-    let mut turns = u64::MAX;
-    while turns > 0 {
-        turns -= 1;
-        let Ok(k) = input.read(&mut buf) else {
-            break;
-        };
-        if k == 0 {
-            break;
-        }
-        s = feed_all(&mut line, s, &buf[..k]);
-    }
-    let lines = s.tally.lines;
-    let differ = s.tally.differ;
-    let _ = println!(rt; "{lines} answers replayed, {differ} differ");
+    let tally = replay(&mut rt.stdin());
+    let _ = println!(rt; "{tally}");
 }

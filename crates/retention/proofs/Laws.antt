@@ -9,7 +9,7 @@ use lib.Dec.{eqb}
 use lib.ListN.{length, get_or, take, drop, length-append, length-map}
 use lib.Seq.{take_at, take-suc, drop-drop, drop-append-add, length-take-le}
 use lib.Ieee.{Float}
-use Rattle.limits.specs.Limits.{any_number, max_height, max_frames}
+use Rattle.limits.specs.Limits.{any_number, max_height, max_frames, max_samples}
 use Rattle.numeric.specs.Numeric.{all_in_range}
 use Rattle.refusal.proofs.Bools.{both}
 use Rattle.numeric.proofs.Patterns.{all-wider}
@@ -109,14 +109,14 @@ checked y z t mode sep min_width room scratch e =
       ltb-false scratch (length y) (none-for c room scratch 21 e),
     )
 
-pub searchable : {y z t : List Float} {order room : ℕ} (turns bases found : ℕ) → Checked y z t order room → length y ≤ max_frames
-    → length y ≤ turns → turns ≤ 2 * bases + 1 → 4 * turns ≤ found + 4 → RtSearchable y z t turns bases found order
-searchable turns bases found c s a b f =
+pub searchable : {y z t : List Float} {order room : ℕ} (samples : ℕ) → Checked y z t order room → length y ≤ samples → samples ≤ max_samples
+    → RtSearchable y z t samples order
+searchable samples c s a =
     record {
       numbers = c.numbers;
       raw = c.raw;
       times = c.times;
       short = omega arith;
-      room = record { turns-long = a; bases-long = omega arith; found-long = omega arith };
+      room = s;
       order-long = c.order-long;
     }

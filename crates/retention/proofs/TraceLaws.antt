@@ -1,15 +1,11 @@
--- What the number of a call says, and which answer it is.
+-- What the number of a call says.
 use mathlib.Core.Path.{◌≡◌, refl}
 use mathlib.Core.Bool.{true, false}
 use Prim.Native.Nat.{ℕ}
 use Rattle.refusal.specs.Refusal.{first_of, ascending_from}
 use Rattle.refusal.proofs.RefusalLaws.{lowest_by, none-by, applies_for}
-use Rattle.refusal.specs.AnswersLaws.{from_says}
-use Rattle.refusal.proofs.AnswersLaws.{which}
-use Rattle.retention.specs.declared.RtAnswer.{RtAnswer}
-use Rattle.retention.specs.declared.RtAnswer.TheVariants.{LocalPeaks, Refused}
-use Rattle.retention.specs.Trace.{RtCall, rt_checks, rt_number, rt_says}
-use Rattle.retention.specs.TraceLaws.{RtLowest, RtTold}
+use Rattle.retention.specs.Trace.{RtCall, rt_checks, rt_number}
+use Rattle.retention.specs.TraceLaws.{RtLowest}
 
 pub number_is : (c : RtCall) (room scratch : ℕ) → rt_number c room scratch ≡ first_of (rt_checks c room scratch)
 unfolding rt_number
@@ -26,10 +22,3 @@ module _ (c : RtCall) (room scratch : ℕ) where
 
 pub number-lowest : RtLowest
 number-lowest c room scratch h = lowest_by (rt_checks c room scratch) (number_is c room scratch) (ascending c room scratch) h
-
-again : (r : RtAnswer) → r ≡ from_says LocalPeaks Refused (rt_says r)
-again (LocalPeaks count) = refl
-again (Refused n) = refl
-
-pub rt-which : RtTold
-rt-which r n count e = which LocalPeaks Refused rt_says again r n count e

@@ -1,8 +1,9 @@
 -- The retention peaks of a trace as records, and which number of document 01 a call is answered with.
-use Rattle.std.specs.Prelude.{◌≡◌, Bool, cond, not, ◌&&◌, List, [], ◌∷◌, ◌++◌, ℕ, ◌*◌, ltb, eqb, length, drop, Float}
-use Rattle.std.proofs.Math.Option.{none, some}
+use Rattle.std.specs.Prelude.{◌≡◌, Bool, cond, not, ◌&&◌, List, [], ◌∷◌, ◌++◌, ℕ, ◌*◌, ltb, eqb, length, drop, Result, Float}
 use Rattle.refusal.specs.Refusal.{Check, first_of}
-use Rattle.refusal.specs.Answers.{Says, answer_by}
+use Rattle.refusal.specs.Answers.{answer_by}
+use Rattle.refusal.specs.Numbered.{says}
+use Rattle.refusal.specs.declared.Refusal.{Refusal}
 use Rattle.limits.specs.Limits.{max_frames, max_height, max_reading, max_seconds}
 use Rattle.numeric.specs.Numeric.{in_range, all_in_range}
 use Rattle.params.specs.Params.{most_peaks}
@@ -13,8 +14,6 @@ use Rattle.noise.specs.Noise.{noise_f}
 use Rattle.rtrecord.specs.RtRecord.{local_size, local_words}
 use Rattle.rtrecord.specs.declared.RtLocalPeak.{RtLocalPeak}
 use Rattle.rtsearch.specs.Retention.{rt_peaks}
-use Rattle.retention.specs.declared.RtAnswer.{RtAnswer}
-use Rattle.retention.specs.declared.RtAnswer.TheVariants.{LocalPeaks, Refused}
 
 -- the words of some peaks, one record after another
 unfoldable pub peak_words : List RtLocalPeak → List ℕ
@@ -72,11 +71,6 @@ rt_checks c room scratch =
 unfoldable pub rt_number : RtCall → ℕ → ℕ → ℕ
 rt_number c room scratch = first_of (rt_checks c room scratch)
 
--- what an answer says: the count of peaks, or the number that applies
-abbrev pub rt_says : RtAnswer → Says ℕ
-rt_says (LocalPeaks count) = record { number = 0; values = some count }
-rt_says (Refused n) = record { number = n; values = none }
-
 -- ---- what is left of a call
 
 -- the number for a lent list and a lent scratch
@@ -85,8 +79,8 @@ number_for c out scratch = rt_number c (length out) (length scratch)
 
 -- Accepted, with number 0: the words of all peaks stand at the front of the list, which is as it was past them, and what the scratch
 -- holds before the place n, the count of frames, is open. Refused: both are as they were.
-pub record Answered (c : RtCall) (out₀ out scratch₀ scratch : List ℕ) (answer : RtAnswer) : Type 0 where
-  pub answered : rt_says answer ≡ answer_by (number_for c out₀ scratch₀) (length (peaks_of c))
+pub record Answered (c : RtCall) (out₀ out scratch₀ scratch : List ℕ) (answer : Result ℕ Refusal) : Type 0 where
+  pub answered : says answer ≡ answer_by (number_for c out₀ scratch₀) (length (peaks_of c))
   pub words : out ≡ cond (eqb (number_for c out₀ scratch₀) 0) (peak_words (peaks_of c) ++ drop (length (peaks_of c) * local_size) out₀) out₀
   pub length-kept : length scratch ≡ length scratch₀
   pub past : drop (cond (eqb (number_for c out₀ scratch₀) 0) (length c.smoothed) 0) scratch ≡ drop (cond (eqb (number_for c out₀ scratch₀) 0) (length c.smoothed) 0) scratch₀

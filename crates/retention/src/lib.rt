@@ -5,81 +5,84 @@ pub mod inner;
 
 ghost use Rattle.std.specs.Prelude.{◌≡◌, ◌++◌, ◌≤◌, ◌*◌, length, drop};
 ghost use Rattle.limits.specs.Limits.{max_frames};
+ghost use Rattle.refusal.specs.Numbered.{number_in};
 ghost use Rattle.rtrecord.specs.RtRecord.{local_size};
 ghost use Rattle.retention.specs.Steps.{Checked};
 ghost use Rattle.retention.specs.Trace.{call_of, floor_of, peaks_of, peak_words, same_lengths, sound_readings, sound_values, rt_number, Answered};
 
+use refusal::Refusal;
+use rtapex::inner::Trace;
 use rtparams::ThresholdMode;
 use rtrecord::RtLocalPeak;
+use rtsearch::inner::Sought;
 
+// What is asked of the peaks of a trace: the threshold, the least separation in time and the least width, both in seconds.
 #[derive(Clone, Copy)]
-pub enum RtAnswer {
-    LocalPeaks(usize),
-    Refused(u32),
+pub struct RtSearch {
+    pub min_prom: ThresholdMode,
+    pub min_sep_sec: f32,
+    pub min_width_sec: f32,
 }
 
 // The parts of the numbers 1, 3 and 4.
-fn same_lengths(y: &[f32], z: &[f32], t: &[f32]) -> bool
-    ensures { result ≡ same_lengths y.now z.now t.now }
+#[tactic(auto, unfolding(crate::specs::Trace::same_lengths))]
+fn same_lengths(trace: Trace) -> bool
+    ensures { result ≡ same_lengths trace.entry.smoothed.now trace.entry.raw.now trace.entry.times.now }
 {
-    let n = y.len();
-    (z.len() == n) & (t.len() == n)
+    let n = trace.smoothed.len();
+    (trace.raw.len() == n) & (trace.times.len() == n)
 }
 
-fn sound_readings(y: &[f32], z: &[f32]) -> bool
-    ensures { result ≡ sound_readings y.now z.now }
+#[tactic(auto, unfolding(crate::specs::Trace::sound_readings))]
+fn sound_readings(trace: Trace) -> bool
+    ensures { result ≡ sound_readings trace.entry.smoothed.now trace.entry.raw.now }
 {
-    numeric::inner::all_in_range(y, limits::MAX_HEIGHT)
-        & numeric::inner::all_in_range(z, limits::MAX_READING)
+    numeric::inner::all_in_range(trace.smoothed, limits::MAX_HEIGHT)
+        & numeric::inner::all_in_range(trace.raw, limits::MAX_READING)
 }
 
-fn sound_values(mode: ThresholdMode, sep: f32, min_width: f32, t: &[f32]) -> bool
-    ensures { result ≡ sound_values mode sep min_width t.now }
+#[tactic(auto, unfolding(crate::specs::Trace::sound_values))]
+fn sound_values(asked: RtSearch, times: &[f32]) -> bool
+    ensures { result ≡ sound_values asked.min_prom asked.min_sep_sec asked.min_width_sec times.now }
 {
-    rtparams::inner::sound_mode(mode)
-        & numeric::in_range(sep, limits::MAX_SECONDS)
-        & numeric::in_range(min_width, limits::MAX_SECONDS)
-        & numeric::inner::all_in_range(t, limits::MAX_SECONDS)
+    asked.min_prom.is_sound()
+        & numeric::in_range(asked.min_sep_sec, limits::MAX_SECONDS)
+        & numeric::in_range(asked.min_width_sec, limits::MAX_SECONDS)
+        & numeric::inner::all_in_range(times, limits::MAX_SECONDS)
 }
 
-// The number that a call is answered with, 0 for none; `room` and `scratch` are the lengths of the lent lists.
-fn number(
-    y: &[f32],
-    z: &[f32],
-    t: &[f32],
-    mode: ThresholdMode,
-    sep: f32,
-    min_width: f32,
-    room: usize,
-    scratch: usize,
-) -> u32
-    ensures { result ≡ rt_number (call_of y.now z.now t.now mode sep min_width) room scratch }
+// Refuses with the lowest number that applies; `room` and `scratch` are the lengths of the lent lists.
+#[tactic(auto, unfolding(crate::specs::Trace::rt_number, refusal::specs::Refusal::first_of))]
+fn check(trace: Trace, asked: RtSearch, room: usize, scratch: usize) -> Result<(), Refusal>
+    ensures { number_in result ≡ rt_number (call_of trace.entry.smoothed.now trace.entry.raw.now trace.entry.times.now asked.min_prom asked.min_sep_sec asked.min_width_sec) room scratch }
 {
-    if !same_lengths(y, z, t) {
-        return 1;
+    if !same_lengths(trace) {
+        return Err(Refusal::Lengths);
     }
-    if y.len() > limits::MAX_FRAMES {
-        return 2;
+    let n = trace.smoothed.len();
+    if n > limits::MAX_FRAMES {
+        return Err(Refusal::Size);
     }
-    if !sound_readings(y, z) {
-        return 3;
+    if !sound_readings(trace) {
+        return Err(Refusal::Reading);
     }
-    if !sound_values(mode, sep, min_width, t) {
-        return 4;
+    if !sound_values(asked, trace.times) {
+        return Err(Refusal::Value);
     }
-    if !rttime::inner::never_falls(t) {
-        return 7;
+    if !rttime::inner::never_falls(trace.times) {
+        return Err(Refusal::Order);
     }
-    if room < params::inner::most_peaks(y.len()) * RtLocalPeak::WORDS {
-        return 20;
+    if room < params::inner::most_peaks(n) * RtLocalPeak::WORDS {
+        return Err(Refusal::Room);
     }
-    if scratch < y.len() {
-        return 21;
+    if scratch < n {
+        return Err(Refusal::Scratch);
     }
-    0
+    Ok(())
 }
 
 // The floor: the effective threshold at the noise of the smoothed trace.
+#[tactic(auto, unfolding(crate::specs::Trace::floor_of))]
 fn floor_of(y: &[f32], mode: ThresholdMode) -> f32
     ensures { result ≡ floor_of y.now mode }
 {
@@ -87,61 +90,31 @@ fn floor_of(y: &[f32], mode: ThresholdMode) -> f32
 }
 
 // Lists the peaks of a trace that was checked, with the first n words of `scratch` for the order, n being the count of frames.
-fn list_accepted(
-    y: &[f32],
-    z: &[f32],
-    t: &[f32],
-    mode: ThresholdMode,
-    sep: f32,
-    min_width: f32,
-    out: &mut [u32],
-    scratch: &mut [u32],
-) -> usize
-    requires { Checked y.now z.now t.now (length y.now) (length out.old) × (length y.now ≤ max_frames) × (length y.now ≤ length scratch.old) }
-    ensures count { result ≡ length (peaks_of (call_of y.now z.now t.now mode sep min_width)) }
-    ensures front { out.new ≡ peak_words (peaks_of (call_of y.now z.now t.now mode sep min_width)) ++ drop (result * local_size) out.old }
-    ensures past { drop (length y.now) scratch.new ≡ drop (length y.now) scratch.old }
+fn list_accepted(trace: Trace, asked: RtSearch, out: &mut [u32], scratch: &mut [u32]) -> usize
+    requires { Checked trace.smoothed.now trace.raw.now trace.times.now (length trace.smoothed.now) (length out.old) × (length trace.smoothed.now ≤ max_frames) × (length trace.smoothed.now ≤ length scratch.old) }
+    ensures count { result ≡ length (peaks_of (call_of trace.entry.smoothed.now trace.entry.raw.now trace.entry.times.now asked.min_prom asked.min_sep_sec asked.min_width_sec)) }
+    ensures front { out.new ≡ peak_words (peaks_of (call_of trace.entry.smoothed.now trace.entry.raw.now trace.entry.times.now asked.min_prom asked.min_sep_sec asked.min_width_sec)) ++ drop (result * local_size) out.old }
+    ensures past { drop (length trace.entry.smoothed.now) scratch.new ≡ drop (length trace.entry.smoothed.now) scratch.old }
 {
-    let floor = floor_of(y, mode);
-    let n = y.len();
-    inner::find_rt_peaks(y, z, t, floor, sep, min_width, &mut scratch[..n], out)
+    let sought = Sought {
+        floor: floor_of(trace.smoothed, asked.min_prom),
+        sep: asked.min_sep_sec,
+        min_width: asked.min_width_sec,
+    };
+    let n = trace.smoothed.len();
+    inner::find_rt_peaks(trace, sought, &mut scratch[..n], out)
 }
 
-// Writes the records of the retention peaks of a trace to the front of `out`, or answers with a number and leaves `out` and
-// `scratch` as they are.
+// Writes the records of the retention peaks of a trace to the front of `out` and answers how many there are, or refuses the call and
+// leaves `out` and `scratch` as they are.
 pub fn find_rt_peaks(
-    y_smoothed: &[f32],
-    y_raw: &[f32],
-    times: &[f32],
-    min_prom: ThresholdMode,
-    min_sep_sec: f32,
-    min_width_sec: f32,
+    trace: Trace,
+    asked: RtSearch,
     out: &mut [u32],
     scratch: &mut [u32],
-) -> RtAnswer
-    ensures { Answered (call_of y_smoothed.now y_raw.now times.now min_prom min_sep_sec min_width_sec) out.old out.new scratch.old scratch.new result }
+) -> Result<usize, Refusal>
+    ensures { Answered (call_of trace.entry.smoothed.now trace.entry.raw.now trace.entry.times.now asked.min_prom asked.min_sep_sec asked.min_width_sec) out.old out.new scratch.old scratch.new result }
 {
-    let no = number(
-        y_smoothed,
-        y_raw,
-        times,
-        min_prom,
-        min_sep_sec,
-        min_width_sec,
-        out.len(),
-        scratch.len(),
-    );
-    if no == 0 {
-        return RtAnswer::LocalPeaks(list_accepted(
-            y_smoothed,
-            y_raw,
-            times,
-            min_prom,
-            min_sep_sec,
-            min_width_sec,
-            out,
-            scratch,
-        ));
-    }
-    RtAnswer::Refused(no)
+    check(trace, asked, out.len(), scratch.len())?;
+    Ok(list_accepted(trace, asked, out, scratch))
 }

@@ -22,8 +22,8 @@ use Rattle.params.specs.Params.{most_peaks, sound_params}
 use Rattle.params.specs.declared.ImDetectParams.{ImDetectParams}
 use Rattle.params.specs.declared.RowPlace.{RowPlace}
 use Rattle.params.specs.declared.FrameBounds.{FrameBounds}
-use Rattle.params.specs.declared.WindowGroup.{WindowGroup}
-use Rattle.params.specs.declared.WindowGroup.TheVariants.{Missing, Group}
+use Rattle.std.specs.Prelude.{Option}
+use Rattle.std.specs.Prelude.{None, Some}
 use Rattle.rowsearch.specs.Qualifying.{left_x, right_x, width}
 use Rattle.rowsearch.specs.Found.{measured_of, measured_at, oldest, Searchable}
 use Rattle.rowsearch.specs.declared.inner.Measured.{Measured}
@@ -63,9 +63,9 @@ pub mobility-flag-le : (t : List Float) → mobility_flag t ≤ 2
 mobility-flag-le [] = omega arith
 mobility-flag-le (m ∷ ms) = omega arith
 
-pub group-flag-le : (g : WindowGroup) → group_flag g ≤ 1
-group-flag-le Missing = omega arith
-group-flag-le (Group w) = omega arith
+pub group-flag-le : (g : Option ℕ) → group_flag g ≤ 1
+group-flag-le None = omega arith
+group-flag-le (Some w) = omega arith
 
 pub minus-half : neg ½ ≡ of_bits binary32 0xbf00_0000
 unfolding neg of_bits
@@ -191,16 +191,9 @@ put-words l k p = refl
 -- ---- a row that no number refuses
 
 -- a row that is ready can be searched
-pub searchable : {p : ImDetectParams} {y z : List Float} {axis : List ℕ} {first room : ℕ} (turns bases found : ℕ) → Writable y z axis first room → Numbers p y z
-    → length y ≤ turns → turns ≤ 2 * bases + 1 → 4 * turns ≤ found + 4 → Searchable p y z turns bases found
-searchable turns bases found r n a b c =
-    record {
-      numbers = n.numbers;
-      raw = r.raw;
-      short = r.short;
-      room = record { turns-long = a; bases-long = omega arith; found-long = omega arith };
-      floor = n.floor;
-    }
+pub searchable : {p : ImDetectParams} {y z : List Float} {axis : List ℕ} {first room : ℕ} (samples : ℕ) → Writable y z axis first room → Numbers p y z
+    → length y ≤ samples → Searchable p y z samples
+searchable samples r n a = record { numbers = n.numbers; raw = r.raw; short = r.short; room = a; floor = n.floor }
 
 pub ready : (y z : List Float) (r : RowPlace) (f : FrameBounds) (mobility : List Float) (p : ImDetectParams) (axis : List ℕ) (first room : ℕ)
     → row_number y z r f mobility p axis first room ≡ 0 → Writable y z axis first room

@@ -1,4 +1,4 @@
--- What the number of a row says, and which answer it is.
+-- What the number of a row says.
 use mathlib.Core.Path.{◌≡◌, refl}
 use mathlib.Core.Bool.{true, false}
 use mathlib.Core.List.{List}
@@ -6,15 +6,11 @@ use Prim.Native.Nat.{ℕ}
 use lib.Ieee.{Float}
 use Rattle.refusal.specs.Refusal.{first_of, ascending_from}
 use Rattle.refusal.proofs.RefusalLaws.{lowest_by, none-by, applies_for}
-use Rattle.refusal.specs.AnswersLaws.{from_says}
-use Rattle.refusal.proofs.AnswersLaws.{which}
 use Rattle.params.specs.declared.ImDetectParams.{ImDetectParams}
 use Rattle.params.specs.declared.RowPlace.{RowPlace}
 use Rattle.params.specs.declared.FrameBounds.{FrameBounds}
-use Rattle.row.specs.declared.RowAnswer.{RowAnswer}
-use Rattle.row.specs.declared.RowAnswer.TheVariants.{Peaks, Refused}
-use Rattle.row.specs.RowNumber.{row_checks, row_number, row_says}
-use Rattle.row.specs.RowNumberLaws.{RowLowest, RowTold}
+use Rattle.row.specs.RowNumber.{row_checks, row_number}
+use Rattle.row.specs.RowNumberLaws.{RowLowest}
 
 pub number_is : (y z : List Float) (r : RowPlace) (f : FrameBounds) (mobility : List Float) (p : ImDetectParams) (axis : List ℕ) (first room : ℕ) → row_number y z r f mobility p axis first room ≡ first_of (row_checks y z r f mobility p axis first room)
 unfolding row_number
@@ -33,11 +29,3 @@ module _ (y z : List Float) (r : RowPlace) (f : FrameBounds) (mobility : List Fl
 pub number-lowest : RowLowest
 number-lowest y z r f mobility p axis first room h =
     lowest_by (row_checks y z r f mobility p axis first room) (number_is y z r f mobility p axis first room) (ascending y z r f mobility p axis first room) h
-
--- an answer is told by what it says
-again : (r : RowAnswer) → r ≡ from_says Peaks Refused (row_says r)
-again (Peaks count) = refl
-again (Refused n) = refl
-
-pub row-which : RowTold
-row-which r n count e = which Peaks Refused row_says again r n count e

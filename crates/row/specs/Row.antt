@@ -14,8 +14,8 @@ use Rattle.rowsearch.specs.Qualifying.{left_x, right_x, width}
 use Rattle.rowsearch.specs.declared.inner.Measured.{Measured}
 use Rattle.params.specs.declared.RowPlace.{RowPlace}
 use Rattle.params.specs.declared.FrameBounds.{FrameBounds}
-use Rattle.params.specs.declared.WindowGroup.{WindowGroup}
-use Rattle.params.specs.declared.WindowGroup.TheVariants.{Missing, Group}
+use Rattle.std.specs.Prelude.{Option}
+use Rattle.std.specs.Prelude.{None, Some}
 use Rattle.row.specs.declared.inner.OnAxes.{OnAxes}
 
 -- the scan of a sample, the last one's past the axis
@@ -32,13 +32,13 @@ mobility_at [] i = 𝟎
 mobility_at (m ∷ ms) i = get_or (m ∷ ms) i 𝟎
 
 -- which of the fields that may be missing are there; the scan sigma never is
-abbrev pub group_flag : WindowGroup → ℕ
-group_flag Missing = 0
-group_flag (Group g) = 1
+abbrev pub group_flag : Option ℕ → ℕ
+group_flag None = 0
+group_flag (Some g) = 1
 
-abbrev pub group_word : WindowGroup → ℕ
-group_word Missing = 0
-group_word (Group g) = g
+abbrev pub group_word : Option ℕ → ℕ
+group_word None = 0
+group_word (Some g) = g
 
 abbrev pub mobility_flag : List Float → ℕ
 mobility_flag [] = 0

@@ -1,8 +1,6 @@
--- Which number of document 01 a row is answered with, 0 for none, and what an answer says.
+-- Which number of document 01 a row is answered with, 0 for none.
 use Rattle.std.specs.Prelude.{Bool, cond, not, ◌&&◌, List, [], ◌∷◌, ◌++◌, ℕ, ◌*◌, leb, ltb, eqb, length, drop, Float}
-use Rattle.std.proofs.Math.Option.{none, some}
 use Rattle.refusal.specs.Refusal.{Check, first_of}
-use Rattle.refusal.specs.Answers.{Says}
 use Rattle.limits.specs.Limits.{max_height, max_reading, max_mobility, last_row, max_scan, max_samples}
 use Rattle.numeric.specs.Numeric.{all_in_range}
 use Rattle.record.specs.Record.{size}
@@ -12,8 +10,6 @@ use Rattle.params.specs.declared.RowPlace.{RowPlace}
 use Rattle.params.specs.declared.FrameBounds.{FrameBounds}
 use Rattle.rowsearch.specs.Qualifying.{kept}
 use Rattle.row.specs.Row.{row_words}
-use Rattle.row.specs.declared.RowAnswer.{RowAnswer}
-use Rattle.row.specs.declared.RowAnswer.TheVariants.{Peaks, Refused}
 
 -- y is the smoothed row, z the raw one
 
@@ -49,11 +45,6 @@ row_checks y z r f mobility p axis first room =
 
 unfoldable pub row_number : List Float → List Float → RowPlace → FrameBounds → List Float → ImDetectParams → List ℕ → ℕ → ℕ → ℕ
 row_number y z r f mobility p axis first room = first_of (row_checks y z r f mobility p axis first room)
-
--- what an answer says: the count of peaks, or the number that applies
-abbrev pub row_says : RowAnswer → Says ℕ
-row_says (Peaks count) = record { number = 0; values = some count }
-row_says (Refused n) = record { number = n; values = none }
 
 -- the lent list afterwards: the words of the peaks at its front, or as it was
 abbrev pub row_list : List Float → List Float → RowPlace → FrameBounds → List Float → ImDetectParams → List ℕ → ℕ → List ℕ → List ℕ

@@ -4,15 +4,18 @@ ghost use Rattle.limits.specs.Limits.{any_number, exact_index, max_samples};
 ghost use Rattle.numeric.specs.Numeric.{all_in_range};
 ghost use Rattle.record.specs.Record.{size};
 ghost use Rattle.params.specs.Params.{most_peaks};
+ghost use Rattle.rowsearch.specs.SameLists.{SameLists};
 ghost use Rattle.rowsearch.specs.Qualifying.{kept};
 ghost use Rattle.rowsearch.specs.Found.{Searchable, Standing};
+ghost use Rattle.rowsearch.specs.Room.{Sizes};
 ghost use Rattle.row.specs.Row.{on_axes, subscan, scan_at, mobility_at, group_flag, group_word, mobility_flag, peak_of, row_words};
 ghost use Rattle.row.specs.Written.{as_words};
 ghost use Rattle.row.specs.Steps.{Inside, Writable, Numbers, RecordsPut};
 
-use params::{FrameBounds, ImDetectParams, RowPlace, WindowGroup};
+use params::{FrameBounds, ImDetectParams, RowPlace};
 use record::{ImPeak1D, PeakId};
 use rowsearch::inner::Measured;
+use rowsearch::scratch::Scratch;
 
 fn scan_at(axis: &[u32], k: usize) -> u32
     requires { 0 < length axis.now }
@@ -39,29 +42,23 @@ fn mobility_at(mobility: &[f32], i: usize) -> f32
 fn mobility_flag(mobility: &[f32]) -> u32
     ensures { result ≡ mobility_flag mobility.now }
 {
-    if mobility.len() == 0 {
+    if mobility.is_empty() {
         0
     } else {
         ImPeak1D::HAS_MOBILITY
     }
 }
 
-fn group_flag(g: WindowGroup) -> u32
+fn group_flag(g: Option<u32>) -> u32
     ensures { result ≡ group_flag g }
 {
-    match g {
-        WindowGroup::Missing => 0,
-        WindowGroup::Group(_) => ImPeak1D::HAS_GROUP,
-    }
+    if g.is_some() { ImPeak1D::HAS_GROUP } else { 0 }
 }
 
-fn group_word(g: WindowGroup) -> u32
+fn group_word(g: Option<u32>) -> u32
     ensures { result ≡ group_word g }
 {
-    match g {
-        WindowGroup::Missing => 0,
-        WindowGroup::Group(w) => w,
-    }
+    g.unwrap_or(0)
 }
 
 // Where an apex and its two ends lie on the scan axis, its mobility, and the flag that tells whether there is one.
@@ -185,22 +182,34 @@ pub fn list_peaks(
     p: ImDetectParams,
     axis: &[u32],
     first: PeakId,
-    turns: &mut [u32],
-    bases: &mut [u32],
-    found: &mut [u32],
+    scratch: &mut Scratch<'_>,
     out: &mut [u32],
 ) -> usize
-    requires { Writable y.now z.now axis.now first (length out.old) × Searchable p y.now z.now (length turns.old) (length bases.old) (length found.old) }
+    requires { Writable y.now z.now axis.now first (length out.old) × Searchable p y.now z.now scratch.old.samples }
     ensures count { result ≡ length (kept p y.now z.now) }
     ensures front { out.new ≡ row_words place bounds mobility.now axis.now y.now z.now first (kept p y.now z.now) ++ drop (result * size) out.old }
+    ensures samples { scratch.new.samples ≡ scratch.old.samples }
+    ensures lists { SameLists scratch.old scratch.new }
 {
-    let n = rowsearch::inner::find_apexes(y, z, p, turns, bases, found);
-    put_peaks(found, n, y, z, place, bounds, mobility, axis, first, out);
+    let n = rowsearch::inner::find_apexes(y, z, p, scratch);
+    put_peaks(
+        scratch.found,
+        n,
+        y,
+        z,
+        place,
+        bounds,
+        mobility,
+        axis,
+        first,
+        out,
+    );
     n
 }
 
-// The same with room for a row of 1,024 samples.
-fn list_in_1024(
+// The same with scratch of its own, for a row of at most N samples. It is no part of its callers, so that each has the stack of one size alone.
+#[inline(never)]
+fn list_in<const N: usize, const B: usize, const F: usize>(
     y: &[f32],
     z: &[f32],
     place: RowPlace,
@@ -211,39 +220,31 @@ fn list_in_1024(
     first: PeakId,
     out: &mut [u32],
 ) -> usize
-    requires { Writable y.now z.now axis.now first (length out.old) × Numbers p y.now z.now × (length y.now ≤ 1024) }
+    requires row { Writable y.now z.now axis.now first (length out.old) × Numbers p y.now z.now × (length y.now ≤ N) }
+    requires sizes { Sizes N B F }
     ensures count { result ≡ length (kept p y.now z.now) }
     ensures front { out.new ≡ row_words place bounds mobility.now axis.now y.now z.now first (kept p y.now z.now) ++ drop (result * size) out.old }
 {
-    let mut turns = [0u32; 1024];
-    let mut bases = [0u32; 800];
-    let mut found = [0u32; 4096];
+    let mut turns = [0u32; N];
+    let mut bases = [0u32; B];
+    let mut found = [0u32; F];
+    let mut scratch = Scratch {
+        samples: N,
+        turns: &mut turns,
+        bases: &mut bases,
+        found: &mut found,
+    };
     list_peaks(
-        y, z, place, bounds, mobility, p, axis, first, &mut turns, &mut bases, &mut found, out,
-    )
-}
-
-// The same with room for a row of 16,384 samples.
-fn list_in_16384(
-    y: &[f32],
-    z: &[f32],
-    place: RowPlace,
-    bounds: FrameBounds,
-    mobility: &[f32],
-    p: ImDetectParams,
-    axis: &[u32],
-    first: PeakId,
-    out: &mut [u32],
-) -> usize
-    requires { Writable y.now z.now axis.now first (length out.old) × Numbers p y.now z.now × (length y.now ≤ max_samples) }
-    ensures count { result ≡ length (kept p y.now z.now) }
-    ensures front { out.new ≡ row_words place bounds mobility.now axis.now y.now z.now first (kept p y.now z.now) ++ drop (result * size) out.old }
-{
-    let mut turns = [0u32; 16384];
-    let mut bases = [0u32; 8480];
-    let mut found = [0u32; 65536];
-    list_peaks(
-        y, z, place, bounds, mobility, p, axis, first, &mut turns, &mut bases, &mut found, out,
+        y,
+        z,
+        place,
+        bounds,
+        mobility,
+        p,
+        axis,
+        first,
+        &mut scratch,
+        out,
     )
 }
 
@@ -267,7 +268,7 @@ pub fn find_im_peaks_row(
         return 0;
     }
     if y.len() <= 1024 {
-        return list_in_1024(y, z, place, bounds, mobility, p, axis, first, out);
+        return list_in::<1024, 800, 4096>(y, z, place, bounds, mobility, p, axis, first, out);
     }
-    list_in_16384(y, z, place, bounds, mobility, p, axis, first, out)
+    list_in::<16384, 8480, 65536>(y, z, place, bounds, mobility, p, axis, first, out)
 }

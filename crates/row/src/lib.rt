@@ -5,19 +5,16 @@ pub mod inner;
 
 ghost use Rattle.std.specs.Prelude.{◌≡◌, length};
 ghost use Rattle.refusal.specs.Answers.{answer_by};
+ghost use Rattle.refusal.specs.Numbered.{number_in, says};
 ghost use Rattle.rowsearch.specs.Qualifying.{kept};
-ghost use Rattle.row.specs.RowNumber.{same_lengths, sound_readings, sound_values, sound_axis, row_number, row_says, row_list};
+ghost use Rattle.row.specs.RowNumber.{same_lengths, sound_readings, sound_values, sound_axis, row_number, row_list};
 
 use params::{FrameBounds, ImDetectParams, RowPlace};
 use record::{ImPeak1D, PeakId};
-
-#[derive(Clone, Copy)]
-pub enum RowAnswer {
-    Peaks(usize),
-    Refused(u32),
-}
+use refusal::Refusal;
 
 // The parts of the numbers 1, 3, 4 and 5.
+#[tactic(auto, unfolding(crate::specs::RowNumber::same_lengths))]
 fn same_lengths(y: &[f32], z: &[f32], mobility: &[f32], axis: &[u32]) -> bool
     ensures { result ≡ same_lengths y.now z.now mobility.now axis.now }
 {
@@ -25,6 +22,7 @@ fn same_lengths(y: &[f32], z: &[f32], mobility: &[f32], axis: &[u32]) -> bool
     (z.len() == n) & (axis.len() == n) & params::inner::lent_or_empty(n, mobility)
 }
 
+#[tactic(auto, unfolding(crate::specs::RowNumber::sound_readings))]
 fn sound_readings(y: &[f32], z: &[f32]) -> bool
     ensures { result ≡ sound_readings y.now z.now }
 {
@@ -32,6 +30,7 @@ fn sound_readings(y: &[f32], z: &[f32]) -> bool
         & numeric::inner::all_in_range(z, limits::MAX_READING)
 }
 
+#[tactic(auto, unfolding(crate::specs::RowNumber::sound_values))]
 fn sound_values(
     n: usize,
     place: RowPlace,
@@ -42,21 +41,23 @@ fn sound_values(
 ) -> bool
     ensures { result ≡ sound_values n place bounds mobility.now p first }
 {
-    params::inner::sound_params(p)
+    p.is_sound()
         & numeric::inner::all_in_range(mobility, limits::MAX_MOBILITY)
-        & params::inner::sound_bounds(bounds)
+        & bounds.is_sound()
         & (place.tof_row <= limits::LAST_ROW)
         & params::inner::enough_ids(first, params::inner::most_peaks(n))
 }
 
+#[tactic(auto, unfolding(crate::specs::RowNumber::sound_axis))]
 fn sound_axis(place: RowPlace, axis: &[u32]) -> bool
     ensures { result ≡ sound_axis place axis.now }
 {
-    params::inner::all_up_to(limits::MAX_SCAN, axis) & params::inner::sound_tof(place)
+    params::inner::all_up_to(limits::MAX_SCAN, axis) & place.is_sound()
 }
 
 // The number that a row is answered with, 0 for none; `room` is the length of the lent list.
-fn number(
+#[tactic(auto, unfolding(crate::specs::RowNumber::row_number, refusal::specs::Refusal::first_of))]
+fn check(
     y: &[f32],
     z: &[f32],
     place: RowPlace,
@@ -66,31 +67,31 @@ fn number(
     axis: &[u32],
     first: PeakId,
     room: usize,
-) -> u32
-    ensures { result ≡ row_number y.now z.now place bounds mobility.now p axis.now first room }
+) -> Result<(), Refusal>
+    ensures { number_in result ≡ row_number y.now z.now place bounds mobility.now p axis.now first room }
 {
     if !same_lengths(y, z, mobility, axis) {
-        return 1;
+        return Err(Refusal::Lengths);
     }
     if y.len() > limits::MAX_SAMPLES {
-        return 2;
+        return Err(Refusal::Size);
     }
     if !sound_readings(y, z) {
-        return 3;
+        return Err(Refusal::Reading);
     }
     if !sound_values(y.len(), place, bounds, mobility, p, first) {
-        return 4;
+        return Err(Refusal::Value);
     }
     if !sound_axis(place, axis) {
-        return 5;
+        return Err(Refusal::Axis);
     }
     if !params::inner::is_rising(axis) {
-        return 7;
+        return Err(Refusal::Order);
     }
     if room < params::inner::most_peaks(y.len()) * ImPeak1D::WORDS {
-        return 20;
+        return Err(Refusal::Room);
     }
-    0
+    Ok(())
 }
 
 // Writes the records of a row's peaks to the front of `out`, or answers with a number and leaves `out` as it is.
@@ -104,11 +105,11 @@ pub fn find_im_peaks_row(
     scan_axis: &[u32],
     first: PeakId,
     out: &mut [u32],
-) -> RowAnswer
-    ensures answer { row_says result ≡ answer_by (row_number y_smoothed.now y_raw.now place bounds mobility.now p scan_axis.now first (length out.old)) (length (kept p y_smoothed.now y_raw.now)) }
+) -> Result<usize, Refusal>
+    ensures answer { says result ≡ answer_by (row_number y_smoothed.now y_raw.now place bounds mobility.now p scan_axis.now first (length out.old)) (length (kept p y_smoothed.now y_raw.now)) }
     ensures words { out.new ≡ row_list y_smoothed.now y_raw.now place bounds mobility.now p scan_axis.now first out.old }
 {
-    let no = number(
+    check(
         y_smoothed,
         y_raw,
         place,
@@ -118,11 +119,8 @@ pub fn find_im_peaks_row(
         scan_axis,
         first,
         out.len(),
-    );
-    if no == 0 {
-        return RowAnswer::Peaks(inner::find_im_peaks_row(
-            y_smoothed, y_raw, place, bounds, mobility, p, scan_axis, first, out,
-        ));
-    }
-    RowAnswer::Refused(no)
+    )?;
+    Ok(inner::find_im_peaks_row(
+        y_smoothed, y_raw, place, bounds, mobility, p, scan_axis, first, out,
+    ))
 }

@@ -15,7 +15,7 @@ use Rattle.params.specs.Params.{sound_tof as sound_place}
 use Rattle.params.specs.declared.ImDetectParams.{ImDetectParams}
 use Rattle.params.specs.declared.RowPlace.{RowPlace}
 use Rattle.params.specs.declared.FrameBounds.{FrameBounds}
-use Rattle.params.specs.declared.WindowGroup.TheVariants.{Missing}
+use Rattle.std.specs.Prelude.{None}
 use Rattle.rowsearch.specs.Suppression.{keep, keep_all}
 use Rattle.rowsearch.specs.Qualifying.{highest_reading, left_x, right_x, width, qualifies, that_qualify, qualifying, kept}
 use Rattle.row.specs.Row.{subscan, peak_of}
@@ -32,7 +32,7 @@ abbrev asks : ImDetectParams
 asks = record { min_prom = index_f 1; min_distance_scans = 0; min_width_scans = 1 }
 
 abbrev frames : FrameBounds
-frames = record { rt_lo = 3; rt_hi = 5; frame_id_lo = 7; frame_id_hi = 9; window_group = Missing }
+frames = record { rt_lo = 3; rt_hi = 5; frame_id_lo = 7; frame_id_hi = 9; window_group = None }
 
 -- with these TOF bounds
 abbrev from : ℕ → ℕ → RowPlace

@@ -122,19 +122,12 @@ after turns (suc k) = turn turns (2 * k + 1) + 1
 
 -- ---- the search
 
--- Room for the search of a row of n samples: a word for each sample, one for every second, and eight for each apex. The three are the
--- lengths of the lists for turns, bases and what is found.
-pub record Room (n turns bases found : ℕ) : Type 0 where
-  pub turns-long : n ≤ turns
-  pub bases-long : n ≤ 2 * bases + 1
-  pub found-long : 4 * n ≤ found + 4
-
--- A row that can be searched: numbers with a clear sign, in a row that reaches the floor.
-pub record Searchable (p : ImDetectParams) (y z : List Float) (turns bases found : ℕ) : Type 0 where
+-- A row that can be searched with scratch for so many samples: numbers with a clear sign, in a row that reaches the floor.
+pub record Searchable (p : ImDetectParams) (y z : List Float) (samples : ℕ) : Type 0 where
   pub numbers : all_in_range any_number y ≡ true
   pub raw : length z ≡ length y
   pub short : length y ≤ exact_index
-  pub room : Room (length y) turns bases found
+  pub room : length y ≤ samples
   pub floor : reaches p.min_prom (highest_reading 𝟎 z) ≡ true
 
 -- the n apexes ks, the newest first, stand in the list

@@ -3,5 +3,7 @@ pub mod Qualifying
 pub mod Suppression
 pub mod Account
 pub mod QualifyingLaws
+pub mod Room
+pub mod SameLists
 pub mod Found
 pub mod Cases

@@ -6,9 +6,11 @@ ghost use Rattle.limits.specs.Limits.{exact_index};
 ghost use Rattle.numeric.specs.Arith.{𝟎};
 ghost use Rattle.spans.specs.Memo.{Memo};
 ghost use Rattle.sweep.specs.Searched.{Searched};
+ghost use Rattle.rowsearch.specs.SameLists.{SameLists};
 ghost use Rattle.rowsearch.specs.Qualifying.{highest_reading, reaches};
 ghost use Rattle.rowsearch.specs.Found.{found_size, word, measured_words, measured_at, with_measured, Fits, Found, keep_if, Keeps, Spot, kept_of, Searchable, Done};
 
+use super::scratch::Scratch;
 use params::ImDetectParams;
 
 // What is measured of an apex.
@@ -37,8 +39,8 @@ pub fn reaches_floor(z: &[f32], floor: f32) -> bool
     ensures { result ≡ reaches floor (highest_reading 𝟎 z.now) }
 {
     let mut any = !(0.0 < floor);
-    for i in 0..z.len() {
-        any = any | (floor <= z[i]);
+    for &reading in z {
+        any |= floor <= reading;
     }
     any
 }
@@ -161,30 +163,29 @@ fn keep_next(
         s.depth,
     );
     let depth = seen.depth;
-    if seen.wide {
-        let place = place_for(count, near);
-        let a = seen.span;
-        put_measured(
-            found,
-            place,
-            Measured {
-                index: i,
-                left: a.left,
-                right: a.right,
-                width: a.width,
-                prominence,
-                left_x: a.left_x,
-                right_x: a.right_x,
-                area: a.area,
-            },
-        );
-        return Keeping {
-            count: place + 1,
-            last: i,
-            depth,
-        };
+    let Some(a) = seen.span else {
+        return Keeping { count, last, depth };
+    };
+    let place = place_for(count, near);
+    put_measured(
+        found,
+        place,
+        Measured {
+            index: i,
+            left: a.left,
+            right: a.right,
+            width: a.width,
+            prominence,
+            left_x: a.left_x,
+            right_x: a.right_x,
+            area: a.area,
+        },
+    );
+    Keeping {
+        count: place + 1,
+        last: i,
+        depth,
     }
-    Keeping { count, last, depth }
 }
 
 // The apexes of a row that are kept, of the m candidates whose baselines are known. Answers how many there are; what is measured
@@ -215,19 +216,14 @@ fn keep_all(
 }
 
 // Finds the kept apexes of a row that reaches the floor: answers how many there are; what is measured of them stands at the front of
-// `found`. The other lists are scratch.
-pub fn find_apexes(
-    y: &[f32],
-    z: &[f32],
-    p: ImDetectParams,
-    turns: &mut [u32],
-    bases: &mut [u32],
-    found: &mut [u32],
-) -> usize
-    requires { Searchable p y.now z.now (length turns.old) (length bases.old) (length found.old) }
-    ensures { Done p y.now z.now found.new result }
+// the list `found` of the scratch.
+pub fn find_apexes(y: &[f32], z: &[f32], p: ImDetectParams, s: &mut Scratch<'_>) -> usize
+    requires { Searchable p y.now z.now s.old.samples }
+    ensures done { Done p y.now z.now s.new.found.now result }
+    ensures samples { s.new.samples ≡ s.old.samples }
+    ensures lists { SameLists s.old s.new }
 {
     numeric::inner::all_fit(y);
-    let m = sweep::inner::find(y, turns, bases, found);
-    keep_all(y, z, turns, bases, m, p, found)
+    let m = sweep::inner::find(y, s.turns, s.bases, s.found);
+    keep_all(y, z, s.turns, s.bases, m, p, s.found)
 }

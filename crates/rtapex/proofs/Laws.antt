@@ -14,9 +14,9 @@ use Rattle.rtapex.specs.declared.inner.Seconds.{Seconds}
 use Rattle.rtapex.specs.InTime.{subframe, apex_time, seconds_of, apex_area, local_peak_of}
 use Rattle.rtapex.specs.Steps.{Inside}
 
-pub minus-half : neg ½ ≡ of_bits binary32 0xbf00_0000
+pub minus_half : neg ½ ≡ of_bits binary32 0xbf00_0000
 unfolding neg of_bits
-minus-half = refl
+minus_half = refl
 
 -- what is measured of an apex: its crossings and its area
 pub left_is : (y z : List Float) (i : ℕ) → (measured_of y z i).left_x ≡ left_x y i

@@ -6,10 +6,12 @@ use native.Mathlib.Omega.{arith}
 use lib.ListN.{length, drop, length-append, length-drop}
 use Rattle.rtrecord.specs.RtRecord.{local_size}
 use Rattle.rtrecord.specs.declared.RtLocalPeak.{RtLocalPeak}
-use Rattle.retention.specs.declared.RtAnswer.{RtAnswer}
-use Rattle.retention.specs.Trace.{RtCall, peak_words, peaks_of, rt_checks, rt_number, number_for, rt_says}
+use Rattle.std.specs.Prelude.{Result}
+use Rattle.refusal.specs.Numbered.{says}
+use Rattle.refusal.specs.declared.Refusal.{Refusal}
+use Rattle.refusal.proofs.NumberedLaws.{which}
+use Rattle.retention.specs.Trace.{RtCall, peak_words, peaks_of, rt_checks, rt_number, number_for}
 use Rattle.retention.specs.Trace as retention
-use Rattle.retention.proofs.TraceLaws.{rt-which}
 use Rattle.entryword.specs.Word.{word_of, itself}
 use Rattle.entryword.proofs.Words.{below, first_below, word_fits, word-told}
 use Rattle.rtapi.specs.Search.{Answered, SearchTold}
@@ -27,7 +29,7 @@ unfolding peak_words
 words_long [] = refl
 words_long (p ∷ ps) = let r = words_long ps in simp length-append (omega (arith, r))
 
-module _ {c : RtCall} {out₀ out scratch₀ scratch : List ℕ} {r : RtAnswer} (a : retention.Answered c out₀ out scratch₀ scratch r) where
+module _ {c : RtCall} {out₀ out scratch₀ scratch : List ℕ} {r : Result ℕ Refusal} (a : retention.Answered c out₀ out scratch₀ scratch r) where
   few : number_for c out₀ scratch₀ ≡ 0 → length out ≡ length out₀ → length (peaks_of c) * local_size ≤ length out₀
   few z kept =
       let ps = peaks_of c in
@@ -36,14 +38,14 @@ module _ {c : RtCall} {out₀ out scratch₀ scratch : List ℕ} {r : RtAnswer} 
       ap length e ∙ (simp (length-append, length-drop, words_long ps)) in
       omega (arith, l, kept)
 
-  pub search-fits : length out ≡ length out₀ → length out₀ < 2 ^ 61 → word_of itself (rt_says r) < 2 ^ 64
+  pub search-fits : length out ≡ length out₀ → length out₀ < 2 ^ 61 → word_of itself (says r) < 2 ^ 64
   search-fits kept short =
       rw a.answered
       (word_fits itself (number_for c out₀ scratch₀) (length (peaks_of c)) (search-small c out₀ scratch₀) (λ z. omega (arith, few z kept, short)))
 
-  pub search-word : (w : ℕ) → w ≡ word_of itself (rt_says r) → Answered c out₀ out scratch₀ scratch w
+  pub search-word : (w : ℕ) → w ≡ word_of itself (says r) → Answered c out₀ out scratch₀ scratch w
   search-word w e =
       record {
         word = e ∙ ap (word_of itself) a.answered;
-        lists = subst (λ (x : RtAnswer). retention.Answered c out₀ out scratch₀ scratch x) (rt-which r _ _ a.answered) a;
+        lists = subst (λ (x : Result ℕ Refusal). retention.Answered c out₀ out scratch₀ scratch x) (which ℕ r _ _ a.answered) a;
       }

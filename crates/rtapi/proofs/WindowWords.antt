@@ -1,34 +1,32 @@
 -- The word of the first call, and what it leaves in the lent list.
-use mathlib.Core.Path.{◌≡◌, refl, sym, ap, ◌∙◌, subst}
+use mathlib.Core.Path.{◌≡◌, refl, sym, ap, subst}
 use mathlib.Core.Bool.{Bool, true, false, cond}
 use mathlib.Core.List.{List, [], ◌∷◌, ◌++◌}
-use Prim.Native.Nat.{ℕ, ◌<◌, max}
+use Prim.Native.Nat.{ℕ, ◌<◌, ◌≤◌, ◌^◌, max}
 use native.Mathlib.Omega.{arith}
-use borrow.Author.Tests.{ne_eqb, ltb-true, eqb-true}
+use borrow.Author.Tests.{ne_eqb, ltb-true, le-ltb}
 use lib.Dec.{eqb, ltb}
-use lib.ListN.{length}
-use lib.Ieee.{Float}
+use lib.ListN.{length, drop}
+use lib.Ieee.{Float, binary32, to_bits}
+use mathlib.Core.Option.{none, some}
+use Rattle.std.specs.Prelude.{Option, Some, None, Ok}
 use Rattle.refusal.specs.Refusal.{Check, first_of, ascending_from}
-use Rattle.refusal.specs.Answers.{answer_by}
+use Rattle.refusal.specs.Answers.{Says, answer_by}
+use Rattle.refusal.specs.Numbered.{says}
 use Rattle.refusal.proofs.Bools.{both}
 use Rattle.refusal.proofs.RefusalLaws.{lowest_by}
 use Rattle.record.specs.Record.{peak_at}
 use Rattle.record.specs.declared.ImPeak1D.{ImPeak1D}
 use Rattle.rtparams.specs.declared.RtExpandParams.{RtExpandParams}
-use Rattle.rtwindow.specs.declared.FrameWindow.{FrameWindow}
-use Rattle.rtwindow.specs.declared.FrameWindow.TheVariants.{Frames, NoFrames}
+use Rattle.rtwindow.specs.declared.Frames.{Frames}
 use Rattle.rtwindow.specs.FrameWindow.{padded_window}
 use Rattle.rtwindow.proofs.Laws.{window-in}
 use Rattle.expandwindow.specs.declared.inner.RtWindow.{RtWindow}
-use Rattle.expandwindow.specs.declared.inner.RtWindow.TheVariants.{Over, Nowhere}
-use Rattle.expandwindow.specs.declared.WindowAnswer.{WindowAnswer}
-use Rattle.expandwindow.specs.declared.WindowAnswer.TheVariants.{Refused}
-use Rattle.expandwindow.specs.Window.{with_sigma, window_of, window_checks, window_number, window_says}
-use Rattle.expandwindow.specs.WindowLaws.{answer_of}
-use Rattle.expandwindow.proofs.WindowLaws.{number_is, ready, sound-numbers, window-which}
-use Rattle.entryword.specs.Word.{as_word, word_of}
-use Rattle.entryword.proofs.Words.{below, first_below, word-told}
-use Rattle.rtapi.specs.Window.{window_words, window_count, number_in, word_to, list_to, highest, call_checks, call_number, CallLowest, with_window, Answered, CallTold}
+use Rattle.expandwindow.specs.Window.{with_sigma, window_of, window_checks, window_number}
+use Rattle.expandwindow.proofs.WindowLaws.{number_is, ready, sound-numbers}
+use Rattle.entryword.specs.Word.{as_word, word_of, itself}
+use Rattle.entryword.proofs.Words.{below, first_below, word_fits, word-told}
+use Rattle.rtapi.specs.Window.{window_words, window_count, number_in, call_checks, call_number, CallLowest, with_window, CallTold}
 
 -- ---- the number
 
@@ -64,40 +62,69 @@ module _ (peak ids : List ℕ) (times : List Float) (e : RtExpandParams) (room :
 pub call-lowest : CallLowest
 call-lowest peak ids times e room h = lowest_by (call_checks peak ids times e room) (call-is peak ids times e room) (ascending peak ids times e room) h
 
-pub call-told : CallTold
+call-small : (peak ids : List ℕ) (times : List Float) (e : RtExpandParams) (room : ℕ) → call_number peak ids times e room < 64
 unfolding below
+call-small peak ids times e room = subst (λ (k : ℕ). k < 64) (sym (call-is peak ids times e room)) (first_below 64 (call_checks peak ids times e room) refl)
+
+pub call-told : CallTold
 call-told peak ids times e room =
-    word-told window_count (call_number peak ids times e room) (window_of ids times e (peak_at peak 0))
-    (subst (λ (k : ℕ). k < 64) (sym (call-is peak ids times e room)) (first_below 64 (call_checks peak ids times e room) refl))
+    word-told window_count (call_number peak ids times e room) (window_of ids times e (peak_at peak 0)) (call-small peak ids times e room)
 
--- ---- word and list
+-- ---- what an answer of the first call tells
 
-module _ (n : ℕ) (was : List ℕ) where
-  pub said : (w : RtWindow)
-      → (word_to (cond (eqb n 0) (answer_of w) (Refused n)) (length was) ≡ word_of window_count (answer_by (number_in n (length was)) w))
-      × (list_to (cond (eqb n 0) (answer_of w) (Refused n)) was ≡ cond (eqb (number_in n (length was)) 0) (with_window was w) was)
-  unfolding window_words window_count word_to list_to as_word
-  said w = go (eqb n 0) refl (ltb (length was) 3) refl w
-    where
-      go : (b : Bool) → eqb n 0 ≡ b → (s : Bool) → ltb (length was) 3 ≡ s → (w : RtWindow)
-          → (word_to (cond (eqb n 0) (answer_of w) (Refused n)) (length was) ≡ word_of window_count (answer_by (number_in n (length was)) w))
-          × (list_to (cond (eqb n 0) (answer_of w) (Refused n)) was ≡ cond (eqb (number_in n (length was)) 0) (with_window was w) was)
-      go true e true f (Over lo hi sigma) = rw (e, f) (refl, refl)
-      go true e true f Nowhere = rw (e, f) (refl, refl)
-      go true e false f (Over lo hi sigma) = rw (e, f) (refl, refl)
-      go true e false f Nowhere = rw (e, f) (refl, refl)
-      go false e s f w = rw (e, e) (refl, refl)
+module _ (n : ℕ) (w : Option RtWindow) where
+  pub none-refuses : (x : Option RtWindow) → says (Ok x) ≡ answer_by n w → 0 ≡ n
+  none-refuses x h = ap (λ (s : Says (Option RtWindow)). s.number) h
+
+  pub window-is : (x : Option RtWindow) → says (Ok x) ≡ answer_by n w → x ≡ w
+  window-is x h =
+      let z : n ≡ 0 = sym (none-refuses x h) in
+      let v : some x ≡ cond (eqb n 0) (some w) none = ap (λ (s : Says (Option RtWindow)). s.values) h in
+      let u : some x ≡ some w = rw z at v in
+      cc
+
+-- ---- the call
+
+module _ (n : ℕ) (w : Option RtWindow) (was : List ℕ) where
+  abbrev all : ℕ
+  all = number_in n (length was)
+
+  -- what is answered and left where there is a window, and where there is none
+  pub put-some : (x : RtWindow) (is : List ℕ) → 0 ≡ n → Some x ≡ w → 3 ≤ length was → is ≡ (x.lo ∷ x.hi ∷ to_bits binary32 x.sigma ∷ []) ++ drop 3 was
+      → (says (Ok 1) ≡ answer_by all (window_count w)) × (is ≡ cond (eqb all 0) (with_window was w) was)
+  unfolding window_words window_count
+  put-some x is z e h g = rw (← z, ← e, le-ltb (length was) 3 h) (refl, g)
+
+  pub put-none : 0 ≡ n → None ≡ w → 3 ≤ length was
+      → (says (Ok 0) ≡ answer_by all (window_count w)) × (was ≡ cond (eqb all 0) (with_window was w) was)
+  unfolding window_words window_count
+  put-none z e h = rw (← z, ← e, le-ltb (length was) 3 h) (refl, refl)
+
+-- the word of the count is that of the window
+pub same-word : (n : ℕ) (w : Option RtWindow) → word_of itself (answer_by n (window_count w)) ≡ word_of window_count (answer_by n w)
+unfolding as_word
+same-word n w = go (eqb n 0)
+  where
+    go : (b : Bool) → as_word itself n (cond b (some (window_count w)) none) ≡ as_word window_count n (cond b (some w) none)
+    go true = refl
+    go false = refl
+
+pub word-small : (peak ids : List ℕ) (times : List Float) (e : RtExpandParams) (room : ℕ)
+    → word_of itself (answer_by (call_number peak ids times e room) (window_count (window_of ids times e (peak_at peak 0)))) < 2 ^ 64
+unfolding window_count
+word-small peak ids times e room =
+    let w = window_of ids times e (peak_at peak 0) in
+    word_fits itself (call_number peak ids times e room) (window_count w) (call-small peak ids times e room) (λ z. omega (arith, count-few w))
+  where
+    count-few : (w : Option RtWindow) → window_count w ≤ 1
+    count-few (Some x) = omega arith
+    count-few None = omega arith
 
 -- ---- places
 
-unfoldable last_of : RtWindow → ℕ
-last_of (Over lo hi sigma) = max lo hi
-last_of Nowhere = 0
-
-answer-few : (w : RtWindow) → last_of w < 4294967296 → highest (answer_of w) < 4294967296
-unfolding last_of highest
-answer-few (Over lo hi sigma) h = h
-answer-few Nowhere h = h
+unfoldable last_of : Option RtWindow → ℕ
+last_of (Some w) = max w.lo w.hi
+last_of None = 0
 
 module _ (peak ids : List ℕ) (times : List Float) (e : RtExpandParams) where
   abbrev p : ImPeak1D
@@ -107,35 +134,14 @@ module _ (peak ids : List ℕ) (times : List Float) (e : RtExpandParams) where
   unfolding window_of with_sigma last_of
   last-few z = go (padded_window ids p.frame_id_lo p.frame_id_hi e.rt_pad_frames) refl
     where
-      go : (f : FrameWindow) → f ≡ padded_window ids p.frame_id_lo p.frame_id_hi e.rt_pad_frames
+      go : (f : Option Frames) → f ≡ padded_window ids p.frame_id_lo p.frame_id_hi e.rt_pad_frames
           → last_of (with_sigma e.smooth_sigma_sec times f) < 4294967296
-      go (Frames a b) g =
+      go (Some f) g =
           let r = ready peak ids times e z in
-          let i = window-in ids p.frame_id_lo p.frame_id_hi e.rt_pad_frames a b (sound-numbers p r.sound) g in
+          let i = window-in ids p.frame_id_lo p.frame_id_hi e.rt_pad_frames f.lo f.hi (sound-numbers p r.sound) g in
           omega (arith, i.0, i.1, r.few)
-      go NoFrames g = omega arith
+      go None g = omega arith
 
-  pub few-places : (a : WindowAnswer) → window_says a ≡ answer_by (window_number peak ids times e) (window_of ids times e (peak_at peak 0)) → highest a < 4294967296
-  unfolding highest
-  few-places a h =
-      subst (λ (x : WindowAnswer). highest x < 4294967296)
-      (sym (window-which a (window_number peak ids times e) (window_of ids times e (peak_at peak 0)) h))
-      (go (eqb (window_number peak ids times e) 0) refl)
-    where
-      go : (b : Bool) → eqb (window_number peak ids times e) 0 ≡ b
-          → highest (cond b (answer_of (window_of ids times e (peak_at peak 0))) (Refused (window_number peak ids times e))) < 4294967296
-      go true z = answer-few (window_of ids times e (peak_at peak 0)) (last-few (eqb-true (window_number peak ids times e) 0 z))
-      go false z = omega arith
-
-  pub answered : (a : WindowAnswer) (was is : List ℕ) (r : ℕ)
-      → window_says a ≡ answer_by (window_number peak ids times e) (window_of ids times e (peak_at peak 0))
-      → r ≡ word_to a (length was) → is ≡ list_to a was → Answered peak ids times e was is r
-  answered a was is r h f g =
-      let w = window_of ids times e (peak_at peak 0) in
-      let n = window_number peak ids times e in
-      let k = window-which a n w h in
-      let s = said n was w in
-      record {
-        word = f ∙ ap (λ (x : WindowAnswer). word_to x (length was)) k ∙ s.0;
-        out = g ∙ ap (λ (x : WindowAnswer). list_to x was) k ∙ s.1;
-      }
+  pub places-few : (x : RtWindow) → window_number peak ids times e ≡ 0 → Some x ≡ window_of ids times e (peak_at peak 0) → (x.lo < 4294967296) × (x.hi < 4294967296)
+  unfolding last_of
+  places-few x z h = let f : max x.lo x.hi < 4294967296 = subst (λ (w : Option RtWindow). last_of w < 4294967296) (sym h) (last-few z) in (omega (arith, f), omega (arith, f))

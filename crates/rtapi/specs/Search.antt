@@ -1,15 +1,15 @@
 -- What the C entry of a trace's retention peaks answers: 64 times their count, or the number.
-use Rattle.std.specs.Prelude.{◌≡◌, cond, List, ℕ, eqb, length}
+use Rattle.std.specs.Prelude.{◌≡◌, cond, List, ℕ, eqb, length, Result, Ok, Err}
 use Rattle.refusal.specs.Answers.{answer_by}
-use Rattle.retention.specs.declared.RtAnswer.{RtAnswer}
-use Rattle.retention.specs.declared.RtAnswer.TheVariants.{LocalPeaks, Refused}
+use Rattle.refusal.specs.NumberedLaws.{refusal_of}
+use Rattle.refusal.specs.declared.Refusal.{Refusal}
 use Rattle.retention.specs.Trace.{RtCall, peaks_of, number_for}
 use Rattle.retention.specs.Trace as retention
 use Rattle.entryword.specs.Word.{word_of, itself, Told}
 
 -- the answer of `find_rt_peaks`: the count of peaks, or the number
-abbrev pub answer_to : RtCall → List ℕ → List ℕ → RtAnswer
-answer_to c out scratch = cond (eqb (number_for c out scratch) 0) (LocalPeaks (length (peaks_of c))) (Refused (number_for c out scratch))
+abbrev pub answer_to : RtCall → List ℕ → List ℕ → Result ℕ Refusal
+answer_to c out scratch = cond (eqb (number_for c out scratch) 0) (Ok (length (peaks_of c))) (Err (refusal_of (number_for c out scratch)))
 
 abbrev pub search_word : RtCall → List ℕ → List ℕ → ℕ
 search_word c out scratch = word_of itself (answer_by (number_for c out scratch) (length (peaks_of c)))

@@ -1,20 +1,5 @@
 // The fallback as a C function on numbers and lists.
-ghost use Rattle.std.specs.Prelude.{◌≡◌};
-ghost use Rattle.fallback.specs.FallbackNumber.{fallback_says};
-ghost use Rattle.entryword.specs.Word.{word_of, itself};
 ghost use Rattle.rtapi.specs.Fallback.{Answered};
-
-use fallback::FallbackAnswer;
-
-fn word_of(answer: FallbackAnswer) -> u64
-    ensures { result ≡ word_of itself (fallback_says answer) }
-{
-    match answer {
-        FallbackAnswer::Peak => 64,
-        FallbackAnswer::NoPeak => 0,
-        FallbackAnswer::Refused(no) => no as u64,
-    }
-}
 
 // Puts the record of a trace's peak to the front of `out` and answers 64, or answers 0 where there is none, or a number, and then leaves
 // `out` as it is.
@@ -31,5 +16,5 @@ pub extern "C" fn rubzolena_fallback_rt_peak(
     ensures { Answered trace.now ids.now times.now peak.now frac first out.old out.new result }
 {
     let answer = fallback::fallback_rt_peak_from_trace(trace, ids, times, peak, frac, first, out);
-    word_of(answer)
+    entryword::word_of(answer)
 }

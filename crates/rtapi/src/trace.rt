@@ -1,17 +1,18 @@
 // The noise of a trace as a C function.
 ghost use Rattle.std.specs.Prelude.{◌≡◌};
-ghost use Rattle.noise.specs.Noise.{noise_says};
+ghost use Rattle.refusal.specs.Numbered.{says};
 ghost use Rattle.entryword.specs.Word.{word_of};
 ghost use Rattle.rtapi.specs.Noise.{pattern, noise_word};
 
-use noise::NoiseAnswer;
+use refusal::Refusal;
 
-fn word_of(answer: NoiseAnswer) -> u64
-    ensures { result ≡ word_of pattern (noise_says answer) }
+// The word of a noise, or of the number that refuses. No count, which entryword says as a word, has all patterns as an f32 has.
+fn word_of(answer: Result<f32, Refusal>) -> u64
+    ensures { result ≡ word_of pattern (says answer) }
 {
     match answer {
-        NoiseAnswer::Noise(v) => (numeric::word_of(v) as u64) * 64,
-        NoiseAnswer::Refused(no) => no as u64,
+        Ok(v) => (numeric::word_of(v) as u64) * 64,
+        Err(refusal) => refusal.number() as u64,
     }
 }
 

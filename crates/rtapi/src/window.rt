@@ -1,11 +1,16 @@
 // The first call of expansion as a C function on numbers and lists.
-ghost use Rattle.std.specs.Prelude.{◌≡◌, [], ◌∷◌, ◌++◌, ◌≤◌, ◌<◌, length, drop};
+ghost use Rattle.std.specs.Prelude.{◌≡◌, [], ◌∷◌, ◌++◌, ◌≤◌, length, drop};
 ghost use Rattle.std.specs.Float.{binary32};
 ghost use Rattle.std.specs.Float.Ieee.{to_bits};
 ghost use Rattle.rtgiven.specs.Given.{params_of};
-ghost use Rattle.rtapi.specs.Window.{word_to, list_to, highest, Answered};
+ghost use Rattle.refusal.specs.Answers.{answer_by};
+ghost use Rattle.refusal.specs.Numbered.{says};
+ghost use Rattle.record.specs.Record.{peak_at};
+ghost use Rattle.expandwindow.specs.Window.{window_of};
+ghost use Rattle.rtapi.specs.Window.{window_count, call_number, list_after, Answered};
 
-use expandwindow::WindowAnswer;
+use refusal::Refusal;
+use rtparams::RtExpandParams;
 
 // Writes a window to the front of a list.
 fn put(out: &mut [u32], lo: u32, hi: u32, sigma: f32)
@@ -17,22 +22,28 @@ fn put(out: &mut [u32], lo: u32, hi: u32, sigma: f32)
     out[2] = numeric::word_of(sigma);
 }
 
-// Says an answer of the first call as a word and a list.
-fn say(answer: WindowAnswer, out: &mut [u32]) -> u64
-    requires { highest answer < 4294967296 }
-    ensures word { result ≡ word_to answer (length out.old) }
-    ensures list { out.new ≡ list_to answer out.old }
+// Writes the window of a peak, if it has one, to the front of `out` and answers how many it has, or refuses the call and leaves `out` as
+// it is.
+fn put_window(
+    peak: &[u32],
+    ids: &[u32],
+    times: &[f32],
+    params: RtExpandParams,
+    out: &mut [u32],
+) -> Result<usize, Refusal>
+    ensures answer { says result ≡ answer_by (call_number peak.now ids.now times.now params (length out.old)) (window_count (window_of ids.now times.now params (peak_at peak.now 0))) }
+    ensures list { out.new ≡ list_after peak.now ids.now times.now params out.old }
 {
-    match answer {
-        WindowAnswer::Window(lo, hi, sigma) => {
-            if out.len() < 3 {
-                return 20;
-            }
-            put(out, lo as u32, hi as u32, sigma);
-            64
+    let window = expandwindow::expand_im_peak_window(peak, ids, times, params)?;
+    if out.len() < 3 {
+        return Err(Refusal::Room);
+    }
+    match window {
+        Some(w) => {
+            put(out, w.lo as u32, w.hi as u32, w.sigma);
+            Ok(1)
         }
-        WindowAnswer::NoWindow => { if out.len() < 3 { 20 } else { 0 } }
-        WindowAnswer::Refused(no) => no as u64,
+        None => Ok(0),
     }
 }
 
@@ -69,6 +80,6 @@ pub extern "C" fn rubzolena_expand_window(
         fallback_frac_width,
         rt_pad_frames,
     );
-    let answer = expandwindow::expand_im_peak_window(peak, ids, times, params);
-    say(answer, out)
+    let answer = put_window(peak, ids, times, params, out);
+    entryword::word_of(answer)
 }

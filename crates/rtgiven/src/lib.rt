@@ -6,18 +6,19 @@ ghost use Rattle.rtgiven.specs.Given.{threshold_of, params_of};
 
 use rtparams::{RtExpandParams, ThresholdMode};
 
+// A threshold by the number of its kind. An unknown kind stands for a value that is out of range, and is no error of its own: number 4
+// has to come behind the lower ones, which look at other input.
 pub fn threshold(kind: u32, value: f32) -> ThresholdMode
     ensures { result ≡ threshold_of kind value }
 {
-    if kind == 0 {
-        return ThresholdMode::Fixed(value);
+    match kind {
+        0 => ThresholdMode::Fixed(value),
+        1 => ThresholdMode::AdaptiveNoise(value),
+        _ => ThresholdMode::Fixed(-1.0),
     }
-    if kind == 1 {
-        return ThresholdMode::AdaptiveNoise(value);
-    }
-    ThresholdMode::Fixed(-1.0)
 }
 
+// The parameters of expansion, in the order of their fields, the threshold as two numbers.
 pub fn expand_params(
     bin_pad: u32,
     smooth_sigma_sec: f32,
@@ -31,11 +32,10 @@ pub fn expand_params(
 ) -> RtExpandParams
     ensures { result ≡ params_of bin_pad smooth_sigma_sec min_prom_kind min_prom min_sep_sec min_width_sec fallback_if_frames_lt fallback_frac_width rt_pad_frames }
 {
-    let mode = threshold(min_prom_kind, min_prom);
     RtExpandParams {
         bin_pad,
         smooth_sigma_sec,
-        min_prom: mode,
+        min_prom: threshold(min_prom_kind, min_prom),
         min_sep_sec,
         min_width_sec,
         fallback_if_frames_lt,

@@ -1,18 +1,17 @@
 -- The account of every qualifying retention apex of a trace.
-use mathlib.Core.Path.{◌≡◌, refl, sym, ap, ◌∙◌, subst}
+use mathlib.Core.Path.{◌≡◌, refl, sym, ap, ◌∙◌}
 use mathlib.Core.Bool.{Bool, true, false, cond, ◌&&◌}
 use mathlib.Core.List.Memᴰ
 use mathlib.Core.List.{List, [], ◌∷◌, ◌++◌, append_assoc, map}
-use mathlib.Core.Logic.{◌⊎◌, ◌↔◌, ◌≢◌}
+use mathlib.Core.Logic.{◌↔◌, ◌≢◌}
 use Prim.Native.Nat.{ℕ, zero, suc, ◌+◌, ◌-◌, ◌*◌, ◌≤◌, ◌<◌}
 use native.Mathlib.Omega.{arith}
-use native.Mathlib.Nat.{zero-add, add-zero}
+use native.Mathlib.Nat.{add-zero}
 use borrow.Author.Tests.{ltb-false, le-leb}
-use lib.Dec.{ltb, leb}
-use lib.ListN.{length, get_or, drop, length-map, get_or-append}
+use lib.ListN.{length, get_or}
 use lib.Seq.{get_or-append-add}
 use lib.Ieee.{Float, binary32, lt}
-use Rattle.refusal.proofs.Bools.{both, clash}
+use Rattle.refusal.proofs.Bools.{clash}
 use Rattle.numeric.specs.Arith.{at, 𝟎}
 use Rattle.apex.specs.Apex.{candidates_to, candidates, prominence}
 use Rattle.numeric.specs.Plain.{word}
@@ -20,7 +19,7 @@ use Rattle.numeric.proofs.Order.{abs-sub, not-lt}
 use Rattle.rowsearch.specs.Account.{◌∈◌, All, Ascending, NoNan}
 use Rattle.rowsearch.specs.Qualifying.{highest_reading, reaches, width, qualifies, that_qualify, qualifying}
 use Rattle.rowsearch.proofs.QualifyingLaws.{qualifying-ascend, qualifying-listed, qualifying-complete}
-use Rattle.chosen.specs.Chosen.{Each, Distinct, chosen, passing, Accounted}
+use Rattle.chosen.specs.Chosen.{Distinct, passing, Accounted}
 use Rattle.chosen.specs.Ranking.{before, ordered_by}
 use Rattle.chosen.specs.Times.{near_in_time}
 use Rattle.chosen.proofs.ChosenLaws.{each-imp, passing-are, passing-has, passing-each, account}

@@ -13,7 +13,7 @@ use Rattle.chosen.specs.Ranking.{InOrder}
 use Rattle.chosen.specs.Times.{near_in_time}
 use Rattle.rtrecord.specs.RtRecord.{local_at}
 use Rattle.rtrecord.specs.declared.RtLocalPeak.{RtLocalPeak}
-use Rattle.rtapex.specs.InTime.{apex_time, local_peak_of}
+use Rattle.rtapex.specs.InTime.{apex_time}
 use Rattle.rtsearch.specs.Retention.{is_wide, rt_qualifying, earlier_first, chosen_apexes, has_shares, listed_apexes, rt_peaks}
 use Rattle.retention.specs.Trace.{peak_words}
 

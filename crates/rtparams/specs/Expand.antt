@@ -26,17 +26,7 @@ defaults =
 
 -- parameters with another threshold
 abbrev pub with_mode : RtExpandParams → ThresholdMode → RtExpandParams
-with_mode p m =
-    record {
-      bin_pad = p.bin_pad;
-      smooth_sigma_sec = p.smooth_sigma_sec;
-      min_prom = m;
-      min_sep_sec = p.min_sep_sec;
-      min_width_sec = p.min_width_sec;
-      fallback_if_frames_lt = p.fallback_if_frames_lt;
-      fallback_frac_width = p.fallback_frac_width;
-      rt_pad_frames = p.rt_pad_frames;
-    }
+with_mode p m = record p { min_prom = m }
 
 -- the defaults of old: a fixed threshold of 100
 abbrev pub legacy_defaults : RtExpandParams

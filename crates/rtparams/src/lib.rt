@@ -1,11 +1,9 @@
 // What expansion along the retention time is told: thresholds and parameters.
 #![tactic(auto)]
 
-pub mod inner;
-
 ghost use Rattle.std.specs.Prelude.{◌≡◌};
-ghost use Rattle.rtparams.specs.Modes.{effective_f, default_mode};
-ghost use Rattle.rtparams.specs.Expand.{defaults, legacy_defaults, with_mode};
+ghost use Rattle.rtparams.specs.Modes.{effective_f, default_mode, sound_mode};
+ghost use Rattle.rtparams.specs.Expand.{defaults, legacy_defaults, with_mode, sound_expand};
 
 // The bit pattern of the highest fraction: 1.
 pub const MAX_FRACTION: u32 = 0x3f80_0000;
@@ -31,13 +29,8 @@ impl ThresholdMode {
         ThresholdMode::AdaptiveNoise(sigma_multiplier)
     }
 
-    pub fn default() -> Self
-        ensures { result ≡ default_mode }
-    {
-        ThresholdMode::AdaptiveNoise(3.0)
-    }
-
     // The floor of a trace with a noise.
+    #[tactic(auto, unfolding(crate::specs::Modes::effective_f))]
     pub fn effective(self, noise: f32) -> f32
         ensures { result ≡ effective_f self noise }
     {
@@ -51,6 +44,23 @@ impl ThresholdMode {
             }
             ThresholdMode::AdaptiveNoise(s) => { if noise > 0.0 { s * noise } else { 1.0 } }
         }
+    }
+
+    // Whether number 4 does not apply to it.
+    #[tactic(auto, unfolding(crate::specs::Modes::sound_mode))]
+    pub fn is_sound(self) -> bool
+        ensures { result ≡ sound_mode self }
+    {
+        let (ThresholdMode::Fixed(x) | ThresholdMode::AdaptiveNoise(x)) = self;
+        numeric::in_range(x, limits::MAX_HEIGHT)
+    }
+}
+
+impl Default for ThresholdMode {
+    ghost is_default = { λ x. x ≡ default_mode };
+
+    fn default() -> Self {
+        ThresholdMode::AdaptiveNoise(3.0)
     }
 }
 
@@ -71,10 +81,10 @@ pub struct RtExpandParams {
     pub rt_pad_frames: u32,
 }
 
-impl RtExpandParams {
-    pub fn default() -> Self
-        ensures { result ≡ defaults }
-    {
+impl Default for RtExpandParams {
+    ghost is_default = { λ x. x ≡ defaults };
+
+    fn default() -> Self {
         RtExpandParams {
             bin_pad: 2,
             smooth_sigma_sec: 0.5,
@@ -86,7 +96,9 @@ impl RtExpandParams {
             rt_pad_frames: 2,
         }
     }
+}
 
+impl RtExpandParams {
     // The defaults of old, with a fixed floor.
     pub fn legacy_defaults() -> Self
         ensures { result ≡ legacy_defaults }
@@ -98,14 +110,8 @@ impl RtExpandParams {
         ensures { result ≡ with_mode self (ThresholdMode.Fixed prom) }
     {
         RtExpandParams {
-            bin_pad: self.bin_pad,
-            smooth_sigma_sec: self.smooth_sigma_sec,
             min_prom: ThresholdMode::Fixed(prom),
-            min_sep_sec: self.min_sep_sec,
-            min_width_sec: self.min_width_sec,
-            fallback_if_frames_lt: self.fallback_if_frames_lt,
-            fallback_frac_width: self.fallback_frac_width,
-            rt_pad_frames: self.rt_pad_frames,
+            ..self
         }
     }
 
@@ -113,14 +119,23 @@ impl RtExpandParams {
         ensures { result ≡ with_mode self (ThresholdMode.AdaptiveNoise sigma_multiplier) }
     {
         RtExpandParams {
-            bin_pad: self.bin_pad,
-            smooth_sigma_sec: self.smooth_sigma_sec,
             min_prom: ThresholdMode::AdaptiveNoise(sigma_multiplier),
-            min_sep_sec: self.min_sep_sec,
-            min_width_sec: self.min_width_sec,
-            fallback_if_frames_lt: self.fallback_if_frames_lt,
-            fallback_frac_width: self.fallback_frac_width,
-            rt_pad_frames: self.rt_pad_frames,
+            ..self
         }
+    }
+
+    // Whether number 4 does not apply to them.
+    #[tactic(auto, unfolding(crate::specs::Expand::sound_expand))]
+    pub fn is_sound(self) -> bool
+        ensures { result ≡ sound_expand self }
+    {
+        (self.bin_pad <= limits::MAX_COUNT)
+            & numeric::in_range(self.smooth_sigma_sec, limits::MAX_SECONDS)
+            & self.min_prom.is_sound()
+            & numeric::in_range(self.min_sep_sec, limits::MAX_SECONDS)
+            & numeric::in_range(self.min_width_sec, limits::MAX_SECONDS)
+            & (self.fallback_if_frames_lt <= limits::MAX_COUNT)
+            & numeric::in_range(self.fallback_frac_width, MAX_FRACTION)
+            & (self.rt_pad_frames <= limits::MAX_COUNT)
     }
 }

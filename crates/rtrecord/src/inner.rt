@@ -1,4 +1,5 @@
-// Reading and writing records in lists that the caller has checked.
+// Reading and writing records in lists that the caller has checked. Both kinds of records have the same few functions: a trait over
+// both would have more lines than they have.
 ghost use Rattle.std.specs.Prelude.{◌≡◌, ◌++◌, ◌≤◌, ◌+◌, ◌*◌, length, take, drop};
 ghost use Rattle.std.proofs.lemmas.List.Edits.{sets};
 ghost use Rattle.record.specs.Record.{id_words};
@@ -12,6 +13,7 @@ use record::ImPeak1D;
 // ---- what a retention peak takes over from its mobility peak
 
 // The window group, 0 for a missing one.
+#[tactic(auto, unfolding(crate::specs::RtRecord::group_word))]
 fn group_word(p: ImPeak1D) -> u32
     ensures { result ≡ group_word p }
 {
@@ -23,6 +25,7 @@ fn group_word(p: ImPeak1D) -> u32
 }
 
 // The retention peak of a mobility peak with this apex, these bounds and this identity.
+#[tactic(auto, unfolding(crate::specs::RtRecord::rt_peak_of))]
 pub fn rt_peak_of(apex: RtApex, b: RtBounds, parent: ImPeak1D, id: PeakId) -> RtPeak1D
     ensures { result ≡ rt_peak_of apex b parent id }
 {
@@ -73,6 +76,7 @@ fn put_ids(out: &mut [u32], parent: PeakId, id: PeakId)
 // ---- reading
 
 // The apex at the front of a list.
+#[tactic(auto, unfolding(crate::specs::RtRecord::apex_from))]
 fn first_apex(list: &[u32]) -> RtApex
     requires { apex_size ≤ length list.now }
     ensures { result ≡ apex_from list.now 0 }
@@ -92,6 +96,7 @@ fn first_apex(list: &[u32]) -> RtApex
 }
 
 // The retention peak at the front of a list.
+#[tactic(auto, unfolding(crate::specs::RtRecord::rt_peak_from))]
 fn first_rt_peak(list: &[u32]) -> RtPeak1D
     requires { rt_size ≤ length list.now }
     ensures { result ≡ rt_peak_from list.now 0 }
@@ -124,6 +129,7 @@ pub fn rt_peak_at(list: &[u32], k: usize) -> RtPeak1D
 }
 
 // The local peak at the front of a list.
+#[tactic(auto, unfolding(crate::specs::RtRecord::local_from))]
 fn first_local(list: &[u32]) -> RtLocalPeak
     requires { local_size ≤ length list.now }
     ensures { result ≡ local_from list.now 0 }

@@ -49,7 +49,8 @@ impl RtApex {
 
 // A retention peak, with what it takes over from its mobility peak. Expansion counts frames from the first of the run; the
 // fallback by itself counts them from the first of its trace. One field may be missing, the window group. A bit of `flags`
-// tells whether it is there, and a missing one is 0.
+// tells whether it is there, and a missing one is 0: the C interface has both words, and a record is read back with any flags, so the
+// group is no Option here.
 #[derive(Clone, Copy)]
 pub struct RtPeak1D {
     pub apex: RtApex,

@@ -3,7 +3,7 @@ use Rattle.std.specs.Prelude.{◌≡◌, true, List, map, ℕ, ◌≤◌, ◌<�
 use Rattle.limits.specs.Limits.{any_number, exact_index}
 use Rattle.numeric.specs.Numeric.{all_in_range}
 use Rattle.params.specs.Params.{most_peaks}
-use Rattle.rowsearch.specs.Found.{measured_of, measured_at, Room}
+use Rattle.rowsearch.specs.Found.{measured_of, measured_at}
 use Rattle.rtplaces.specs.Places.{index_at, Inside}
 use Rattle.rtsearch.specs.Retention.{listed_apexes}
 
@@ -16,14 +16,14 @@ pub record Stands (y z : List Float) (found : List ℕ) (p : ℕ) : Type 0 where
 abbrev pub AllStand : List Float → List Float → List ℕ → ℕ → Type 0
 AllStand y z found m = (p : ℕ) → p < m → Stands y z found p
 
--- A trace that can be searched: times and raw readings for each smoothed one, which are numbers with a clear sign. The lists for
--- turns, bases, what is found and the order have these lengths; the order needs a word for each apex that the trace can have.
-pub record RtSearchable (y z t : List Float) (turns bases found order : ℕ) : Type 0 where
+-- A trace that can be searched with scratch for so many samples: times and raw readings for each smoothed one, which are numbers with a
+-- clear sign. The order has this length; it needs a word for each apex that the trace can have.
+pub record RtSearchable (y z t : List Float) (samples order : ℕ) : Type 0 where
   pub numbers : all_in_range any_number y ≡ true
   pub raw : length z ≡ length y
   pub times : length t ≡ length y
   pub short : length y ≤ exact_index
-  pub room : Room (length y) turns bases found
+  pub room : length y ≤ samples
   pub order-long : most_peaks (length y) ≤ order
 
 -- The n listed apexes of a trace: the first n words of `order` are their places in `found`, in the final order.

@@ -1,25 +1,14 @@
 -- Laws of an axis that a loop reads from the front.
-use mathlib.Core.Path.{◌≡◌, refl}
+use mathlib.Core.Path.{◌≡◌}
 use mathlib.Core.Bool.{true, not, ◌&&◌}
-use mathlib.Core.List.{List, [], ◌∷◌}
+use mathlib.Core.List.{List}
 use Prim.Native.Nat.{ℕ, ◌≤◌, ◌<◌, ◌+◌}
 use native.Mathlib.Numerals.{add-one}
-use native.Mathlib.Omega.{arith}
 use lib.ListN.{length, drop, drop_of_length-le}
 use lib.Seq.{drop-cons}
 use lib.Ieee.{Float, nan, lt}
 use Rattle.numeric.specs.Arith.{at}
-use Rattle.rttime.specs.Time.{never_falls_from, never_falls}
-
-pub falls-none : (l : List Float) → length l ≡ 0 → never_falls l ≡ true
-unfolding never_falls
-falls-none [] h = refl
-falls-none (s ∷ ss) h = absurd (omega arith)
-
-pub falls-start : (l : List Float) → 0 < length l → never_falls l ≡ never_falls_from (at l 0) (drop 1 l)
-unfolding never_falls
-falls-start [] h = absurd (omega arith)
-falls-start (s ∷ ss) h = refl
+use Rattle.rttime.specs.Time.{never_falls_from}
 
 pub falls-step : (s : Float) (l : List Float) (i : ℕ) → i < length l
     → never_falls_from s (drop i l) ≡ (not (lt (at l i) s) && never_falls_from (at l i) (drop (i + 1) l))

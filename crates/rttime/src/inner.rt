@@ -7,19 +7,21 @@ ghost use Rattle.rttime.specs.Time.{time_between, time_at, never_falls};
 pub fn smaller(a: usize, b: usize) -> usize
     ensures { result ≡ min a b }
 {
-    if a < b { a } else { b }
+    a.min(b)
 }
 
 // The time at the share f of the way from frame j to the next one.
+#[tactic(auto, unfolding(crate::specs::Time::time_between))]
 pub fn time_between(t: &[f32], j: usize, f: f32) -> f32
     requires { j < length t.now }
     ensures { result ≡ time_between t.now j f }
 {
-    let k = smaller(j + 1, t.len() - 1);
+    let k = (j + 1).min(t.len() - 1);
     (1.0 - f) * t[j] + f * t[k]
 }
 
 // The time at a place between frames.
+#[tactic(auto, unfolding(crate::specs::Time::time_at))]
 pub fn t_at_index_frac(t: &[f32], x: f32) -> f32
     requires { length t.now ≤ exact_index }
     ensures { result ≡ time_at t.now x }
@@ -34,20 +36,23 @@ pub fn t_at_index_frac(t: &[f32], x: f32) -> f32
     if x >= numeric::inner::of_index(last) {
         return t[last];
     }
-    let j = smaller(numeric::cast_sat(x) as usize, last);
+    let j = (numeric::cast_sat(x) as usize).min(last);
     time_between(t, j, x - numeric::inner::of_index(j))
 }
 
 // Whether no time lies below the one before it: number 7 does not apply to such an axis.
+#[tactic(auto, unfolding(crate::specs::Time::never_falls, crate::specs::Time::never_falls_from))]
 pub fn never_falls(t: &[f32]) -> bool
     ensures { result ≡ never_falls t.now }
 {
-    if t.len() == 0 {
+    let Some((&first, rest)) = t.split_first() else {
         return true;
-    }
+    };
+    let mut last = first;
     let mut all = true;
-    for i in 1..t.len() {
-        all = all & !(t[i] < t[i - 1]);
+    for &x in rest {
+        all &= !(x < last);
+        last = x;
     }
     all
 }

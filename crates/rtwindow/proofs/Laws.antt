@@ -7,11 +7,8 @@ use native.Mathlib.Omega.{arith}
 use borrow.Author.Tests.{lt-ltb, le-ltb, ltb-true, ltb-false, eq-eqb, ne_eqb}
 use lib.Dec.{ltb, eqb}
 use lib.ListN.{length, get_or}
-use Rattle.refusal.proofs.Bools.{clash}
-use Rattle.rtwindow.specs.declared.FrameWindow.{FrameWindow}
-use Rattle.rtwindow.specs.declared.FrameWindow.TheVariants.{Frames, NoFrames}
-use Rattle.rtwindow.specs.declared.inner.Place.{Place}
-use Rattle.rtwindow.specs.declared.inner.Place.TheVariants.{At, Nowhere}
+use Rattle.std.specs.Prelude.{Option, Some, None}
+use Rattle.rtwindow.specs.declared.Frames.{Frames}
 use Rattle.rtwindow.specs.FrameWindow.{before, frame_with, widened, between, padded_window}
 
 -- the first place whose number is not below id, where numbers from it on are not
@@ -25,35 +22,27 @@ before-is id (x ∷ xs) (suc r) h low high =
     (ap suc (before-is id xs r (omega arith) (λ j k. low (suc j) (omega arith)) (λ j k m. high (suc j) (omega arith) (omega arith))))
 
 module _ (ids : List ℕ) (id k : ℕ) (is : before id ids ≡ k) where
-  pub there : k < length ids → get_or ids k 0 ≡ id → At k ≡ frame_with ids id
+  pub there : k < length ids → get_or ids k 0 ≡ id → Some k ≡ frame_with ids id
   unfolding frame_with
   there h e = rw (is, lt-ltb k (length ids) h, eq-eqb (get_or ids k 0) id e)
 
-  pub other : k < length ids → (get_or ids k 0 ≡ id → ⊥) → Nowhere ≡ frame_with ids id
+  pub other : k < length ids → (get_or ids k 0 ≡ id → ⊥) → None ≡ frame_with ids id
   unfolding frame_with
   other h e = rw (is, lt-ltb k (length ids) h, ne_eqb (get_or ids k 0) id e)
 
-  pub past : length ids ≤ k → Nowhere ≡ frame_with ids id
+  pub past : length ids ≤ k → None ≡ frame_with ids id
   unfolding frame_with
   past h = rw (is, le-ltb k (length ids) h)
 
 -- a frame that is found is one of the run
-abbrev is_at : Place → Bool
-is_at (At k) = true
-is_at Nowhere = false
-
-abbrev place_of : Place → ℕ
-place_of (At k) = k
-place_of Nowhere = 0
-
-pub found_lt : (ids : List ℕ) (id k : ℕ) → At k ≡ frame_with ids id → k < length ids
+pub found_lt : (ids : List ℕ) (id k : ℕ) → Some k ≡ frame_with ids id → k < length ids
 unfolding frame_with
 found_lt ids id k e = go (ltb (before id ids) (length ids)) (eqb (get_or ids (before id ids) 0) id) refl e
   where
-    go : (b d : Bool) → ltb (before id ids) (length ids) ≡ b → At k ≡ cond (b && d) (At (before id ids)) Nowhere → k < length ids
-    go true true t f = omega (arith, ap place_of f, ltb-true (before id ids) (length ids) t)
-    go true false t f = clash true refl (ap is_at f)
-    go false d t f = clash true refl (ap is_at f)
+    go : (b d : Bool) → ltb (before id ids) (length ids) ≡ b → Some k ≡ cond (b && d) (Some (before id ids)) None → k < length ids
+    go true true t f = let e : k ≡ before id ids = cc in omega (arith, ltb-true (before id ids) (length ids) t)
+    go true false t f = cc
+    go false d t f = cc
 
 -- a higher frame number stands no earlier
 before-mono : (id more : ℕ) (l : List ℕ) → id ≤ more → before id l ≤ before more l
@@ -66,37 +55,26 @@ before-mono id more (x ∷ xs) h = go (ltb x id) (ltb x more) refl refl (before-
     go true false s t r = absurd (omega (arith, ltb-true x id s, ltb-false x more t))
     go false d s t r = omega arith
 
-found-is : (ids : List ℕ) (id k : ℕ) → At k ≡ frame_with ids id → k ≡ before id ids
+found-is : (ids : List ℕ) (id k : ℕ) → Some k ≡ frame_with ids id → k ≡ before id ids
 unfolding frame_with
 found-is ids id k e = go (ltb (before id ids) (length ids) && eqb (get_or ids (before id ids) 0) id) e
   where
-    go : (b : Bool) → At k ≡ cond b (At (before id ids)) Nowhere → k ≡ before id ids
-    go true f = ap place_of f
-    go false f = clash true refl (ap is_at f)
+    go : (b : Bool) → Some k ≡ cond b (Some (before id ids)) None → k ≡ before id ids
+    go true f = cc
+    go false f = cc
 
 -- a window lies in the run, and its first frame is not behind its last
-abbrev first_of : FrameWindow → ℕ
-first_of (Frames a b) = a
-first_of NoFrames = 0
-
-abbrev last_of : FrameWindow → ℕ
-last_of (Frames a b) = b
-last_of NoFrames = 0
-
-abbrev is_frames : FrameWindow → Bool
-is_frames (Frames a b) = true
-is_frames NoFrames = false
-
-pub window-in : (ids : List ℕ) (lo hi pad a b : ℕ) → lo ≤ hi → Frames a b ≡ padded_window ids lo hi pad → (a ≤ b) × (b < length ids)
+pub window-in : (ids : List ℕ) (lo hi pad a b : ℕ) → lo ≤ hi → Some (record { lo = a; hi = b }) ≡ padded_window ids lo hi pad → (a ≤ b) × (b < length ids)
 unfolding padded_window between widened
 window-in ids lo hi pad a b h e = go (frame_with ids lo) (frame_with ids hi) refl refl e
   where
-    go : (p q : Place) → p ≡ frame_with ids lo → q ≡ frame_with ids hi → Frames a b ≡ between (length ids) pad p q → (a ≤ b) × (b < length ids)
-    go Nowhere q s t f = clash true refl (ap is_frames f)
-    go (At i) Nowhere s t f = clash true refl (ap is_frames f)
-    go (At i) (At j) s t f =
-        let first : a ≡ i - min pad (length ids - 1) = ap first_of f in
-        let last : b ≡ min (j + min pad (length ids - 1)) (length ids - 1) = ap last_of f in
+    go : (p q : Option ℕ) → p ≡ frame_with ids lo → q ≡ frame_with ids hi → Some (record { lo = a; hi = b }) ≡ between (length ids) pad p q → (a ≤ b) × (b < length ids)
+    go None q s t f = cc
+    go (Some i) None s t f = cc
+    go (Some i) (Some j) s t f =
+        let w : record { lo = a; hi = b } ≡ widened (length ids) pad i j = cc in
+        let first : a ≡ i - min pad (length ids - 1) = ap (λ (x : Frames). x.lo) w in
+        let last : b ≡ min (j + min pad (length ids - 1)) (length ids - 1) = ap (λ (x : Frames). x.hi) w in
         let i_lt = found_lt ids lo i s in
         let j-lt = found_lt ids hi j t in
         let up : i ≤ j = omega (arith, found-is ids lo i s, found-is ids hi j t, before-mono lo hi ids h) in

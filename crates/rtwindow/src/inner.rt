@@ -1,67 +1,45 @@
 // The steps that find the frames of a mobility peak in a run whose frame numbers rise.
-ghost use Rattle.std.specs.Prelude.{◌≡◌, true, ◌≤◌, ◌<◌, ◌-◌, ◌+◌, min, length};
+ghost use Rattle.std.specs.Prelude.{◌≡◌, true, ◌≤◌, ◌<◌, length};
 ghost use Rattle.params.specs.Params.{rising};
 ghost use Rattle.rtwindow.specs.FrameWindow.{frame_with, widened, padded_window};
 
-use super::FrameWindow;
+use super::Frames;
 
 // The frame with a number, by its place in the run.
-#[derive(Clone, Copy)]
-pub enum Place {
-    At(usize),
-    Nowhere,
-}
-
-fn frame_with(ids: &[u32], id: u32) -> Place
+fn frame_with(ids: &[u32], id: u32) -> Option<usize>
     requires { rising ids.now ≡ true }
     ensures is { result ≡ frame_with ids.now id }
 {
     let k = framesums::inner::first_at(ids, 0, ids.len(), id);
     if k < ids.len() {
         if ids[k] == id {
-            return Place::At(k);
+            return Some(k);
         }
     }
-    Place::Nowhere
-}
-
-// a - b, or 0 where b is above a.
-fn less(a: usize, b: usize) -> usize
-    ensures { result ≡ a - b }
-{
-    if b < a { a - b } else { 0 }
-}
-
-fn fewer(a: usize, b: usize) -> usize
-    ensures { result ≡ min a b }
-{
-    if a < b { a } else { b }
+    None
 }
 
 // Frames lo to hi of n with `pad` more on either side, as far as there are any.
-fn padded(lo: usize, hi: usize, n: usize, pad: u32) -> FrameWindow
+#[tactic(auto, unfolding(crate::specs::FrameWindow::widened))]
+fn padded(lo: usize, hi: usize, n: usize, pad: u32) -> Frames
     requires { hi < 4294967296 }
     ensures { result ≡ widened n pad lo hi }
 {
-    let last = less(n, 1);
-    let p = fewer(pad as usize, last);
-    FrameWindow::Frames(less(lo, p), fewer(hi + p, last))
+    let last = n.saturating_sub(1);
+    let p = (pad as usize).min(last);
+    Frames {
+        lo: lo.saturating_sub(p),
+        hi: (hi + p).min(last),
+    }
 }
 
-// The padded frame window of a mobility peak with these frame numbers.
-pub fn padded_window(ids: &[u32], id_lo: u32, id_hi: u32, pad: u32) -> FrameWindow
+// The padded frame window of a mobility peak with these frame numbers, if both are there.
+#[tactic(auto, unfolding(crate::specs::FrameWindow::padded_window, crate::specs::FrameWindow::between), using(crate::proofs::Laws::found_lt))]
+pub fn padded_window(ids: &[u32], id_lo: u32, id_hi: u32, pad: u32) -> Option<Frames>
     requires { (rising ids.now ≡ true) × (length ids.now ≤ 4294967296) }
     ensures { result ≡ padded_window ids.now id_lo id_hi pad }
 {
-    let first = frame_with(ids, id_lo);
-    let last = frame_with(ids, id_hi);
-    match first {
-        Place::At(lo) => {
-            match last {
-                Place::At(hi) => padded(lo, hi, ids.len(), pad),
-                Place::Nowhere => FrameWindow::NoFrames,
-            }
-        }
-        Place::Nowhere => FrameWindow::NoFrames,
-    }
+    let lo = frame_with(ids, id_lo)?;
+    let hi = frame_with(ids, id_hi)?;
+    Some(padded(lo, hi, ids.len(), pad))
 }

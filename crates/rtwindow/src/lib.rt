@@ -3,9 +3,9 @@
 
 pub mod inner;
 
-// Frames by their places in the run, the first and the last, or none.
+// Frames by their places in the run, the first and the last.
 #[derive(Clone, Copy)]
-pub enum FrameWindow {
-    Frames(usize, usize),
-    NoFrames,
+pub struct Frames {
+    pub lo: usize,
+    pub hi: usize,
 }

@@ -1,4 +1,4 @@
--- What the number of a row to smooth says, and which answer it is.
+-- What the number of a row to smooth says.
 use mathlib.Core.Path.{◌≡◌, refl}
 use mathlib.Core.Bool.{true, false}
 use mathlib.Core.List.{List}
@@ -6,13 +6,8 @@ use Prim.Native.Nat.{ℕ}
 use lib.Ieee.{Float}
 use Rattle.refusal.specs.Refusal.{first_of, ascending_from}
 use Rattle.refusal.proofs.RefusalLaws.{lowest_by, none-by, applies_for}
-use Rattle.refusal.specs.AnswersLaws.{from_says}
-use Rattle.refusal.proofs.AnswersLaws.{which}
-use Rattle.smoothing.specs.declared.SmoothAnswer.{SmoothAnswer}
-use Rattle.smoothing.specs.declared.SmoothAnswer.TheVariants.{Smoothed, Refused}
-use Rattle.smoothing.specs.Answer.{smooth_says}
 use Rattle.smoothing.specs.Smoothing.{smooth_checks, smooth_number}
-use Rattle.smoothing.specs.SmoothLaws.{SmoothLowest, SmoothTold}
+use Rattle.smoothing.specs.SmoothLaws.{SmoothLowest}
 
 pub number_is : (v ws : List Float) (scratch : ℕ) → smooth_number v ws scratch ≡ first_of (smooth_checks v ws scratch)
 unfolding smooth_number
@@ -30,11 +25,3 @@ module _ (v ws : List Float) (scratch : ℕ) where
 -- it is the lowest that applies
 pub number-lowest : SmoothLowest
 number-lowest v ws scratch h = lowest_by (smooth_checks v ws scratch) (number_is v ws scratch) (ascending v ws scratch) h
-
--- an answer is told by its number
-again : (r : SmoothAnswer) → r ≡ from_says (λ u. Smoothed) Refused (smooth_says r)
-again Smoothed = refl
-again (Refused n) = refl
-
-pub smooth-which : SmoothTold
-smooth-which r n e = which (λ u. Smoothed) Refused smooth_says again r n tt e

@@ -11,8 +11,8 @@ fn sum_of(weights: &[f32]) -> f32
     ensures { result ≡ sum_from 𝟎 weights.now }
 {
     let mut sum = 0.0f32;
-    for k in 0..weights.len() {
-        sum = sum + weights[k];
+    for &w in weights {
+        sum += w;
     }
     sum
 }
@@ -20,16 +20,16 @@ fn sum_of(weights: &[f32]) -> f32
 fn divide(dst: &mut [f32], by: f32)
     ensures { dst.new ≡ map (λ a. a ⊘ by) dst.old }
 {
-    for i in 0..dst.len() {
-        dst[i] = dst[i] / by;
+    for x in dst.iter_mut() {
+        *x /= by;
     }
 }
 
 fn clear(dst: &mut [f32])
     ensures { dst.new ≡ tabulate (length dst.old) (λ i. 𝟎) }
 {
-    for i in 0..dst.len() {
-        dst[i] = 0.0;
+    for x in dst.iter_mut() {
+        *x = 0.0;
     }
 }
 
@@ -72,15 +72,12 @@ fn add_all(src: &[f32], u: &[f32], dst: &mut [f32])
     ensures { dst.new ≡ tabulate (length dst.old) (λ j. weighted u.now src.now (j + radius u.now) (length u.now)) }
 {
     clear(dst);
-    let mut k = 0usize;
-    while k < u.len() {
-        if u.len() - k >= 4 {
-            add_four(src, u, k, dst);
-            k += 4;
-        } else {
-            add_one(src, u, k, dst);
-            k += 1;
-        }
+    let fours = u.len() / 4;
+    for k in 0..fours {
+        add_four(src, u, 4 * k, dst);
+    }
+    for k in 4 * fours..u.len() {
+        add_one(src, u, k, dst);
     }
 }
 
@@ -125,12 +122,10 @@ fn end_at(src: &[f32], u: &[f32], i: usize) -> f32
     };
     let mut sum = 0.0f32;
     let mut norm = 0.0f32;
-    let mut k = left;
-    while k < right {
+    for k in left..right {
         let w = u[k];
-        sum = sum + w * src[i + k - r];
-        norm = norm + w;
-        k += 1;
+        sum += w * src[i + k - r];
+        norm += w;
     }
     if norm > 0.0 { sum / norm } else { 0.0 }
 }
@@ -168,7 +163,7 @@ pub fn normalise(weights: &[f32], u: &mut [f32])
     requires { length weights.now ≡ length u.old }
     ensures { u.new ≡ normalised weights.now }
 {
-    super::copy(weights, u);
+    u.copy_from_slice(weights);
     divide(u, sum_of(weights));
 }
 

@@ -3,49 +3,40 @@
 
 pub mod inner;
 
-ghost use Rattle.std.specs.Prelude.{◌≡◌, cond, ◌++◌, eqb, ◌≤◌, length, take, drop};
+ghost use Rattle.std.specs.Prelude.{◌≡◌, cond, ◌++◌, eqb, length, drop};
 ghost use Rattle.refusal.specs.Answers.{answer_by};
+ghost use Rattle.refusal.specs.Numbered.{number_in, says};
 ghost use Rattle.smoothing.specs.Smoothing.{smoothed, smooth_number};
-ghost use Rattle.smoothing.specs.Answer.{smooth_says};
 
-#[derive(Clone, Copy)]
-pub enum SmoothAnswer {
-    Smoothed,
-    Refused(u32),
-}
+use refusal::Refusal;
 
-// Copies the front of `from`.
-fn copy(from: &[f32], to: &mut [f32])
-    requires { length to.old ≤ length from.now }
-    ensures { to.new ≡ take (length to.old) from.now }
-{
-    for i in 0..to.len() {
-        to[i] = from[i];
-    }
-}
-
-// The lowest number that applies, or 0.
-fn number(v: &[f32], weights: &[f32], scratch: usize) -> u32
-    ensures { result ≡ smooth_number v.now weights.now scratch }
+// Refuses with the lowest number that applies.
+#[tactic(auto, unfolding(crate::specs::Smoothing::smooth_number, refusal::specs::Refusal::first_of))]
+fn check(v: &[f32], weights: &[f32], scratch: usize) -> Result<(), Refusal>
+    ensures { number_in result ≡ smooth_number v.now weights.now scratch }
 {
     if v.len() > limits::MAX_SAMPLES {
-        return 2;
+        return Err(Refusal::Size);
     }
     if !numeric::inner::all_in_range(v, limits::MAX_READING) {
-        return 3;
+        return Err(Refusal::Reading);
     }
     if !inner::sound_weights(weights) {
-        return 6;
+        return Err(Refusal::Weights);
     }
     if scratch < v.len() {
-        return 21;
+        return Err(Refusal::Scratch);
     }
-    0
+    Ok(())
 }
 
 // Smooths v in place. The scratch then has the smoothed row at its front, and past it what it held.
-pub fn smooth_vector_gaussian(v: &mut [f32], weights: &[f32], scratch: &mut [f32]) -> SmoothAnswer
-    ensures result_value { smooth_says result ≡ answer_by (smooth_number v.old weights.now (length scratch.old)) tt }
+pub fn smooth_vector_gaussian(
+    v: &mut [f32],
+    weights: &[f32],
+    scratch: &mut [f32],
+) -> Result<(), Refusal>
+    ensures result_value { says result ≡ answer_by (smooth_number v.old weights.now (length scratch.old)) tt }
     ensures v_after { v.new
         ≡ cond (eqb (smooth_number v.old weights.now (length scratch.old)) 0)
         (smoothed weights.now v.old)
@@ -55,11 +46,9 @@ pub fn smooth_vector_gaussian(v: &mut [f32], weights: &[f32], scratch: &mut [f32
         (smoothed weights.now v.old ++ drop (length v.old) scratch.old)
         scratch.old }
 {
-    let n = number(v, weights, scratch.len());
-    if n != 0 {
-        return SmoothAnswer::Refused(n);
-    }
+    check(v, weights, scratch.len())?;
     inner::smooth(v, weights, scratch);
-    copy(scratch, v);
-    SmoothAnswer::Smoothed
+    let n = v.len();
+    v.copy_from_slice(&scratch[..n]);
+    Ok(())
 }

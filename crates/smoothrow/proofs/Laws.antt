@@ -19,7 +19,7 @@ use Rattle.smoothing.specs.Smoothing.{tabulate, smoothed_at, smoothed, normalise
 use Rattle.smoothing.proofs.Laws.{smoothed-length}
 use Rattle.smoothing.proofs.InRange.{smoothed-in-range, smoothed-fits}
 use Rattle.rowsearch.specs.Qualifying.{highest_reading, reaches, kept}
-use Rattle.rowsearch.specs.Found.{Room, Searchable}
+use Rattle.rowsearch.specs.Found.{Searchable}
 use Rattle.rowsearch.specs.Found as rows
 use Rattle.smoothrow.specs.SmoothRow.{searched, sound_or_none, Handed, Done}
 use Rattle.smoothrow.specs.declared.inner.Sought.TheVariants.{Nothing, Raw, Smoothed}
@@ -68,8 +68,8 @@ smoothed-front weights u z d scratch e s =
     )
 
 -- ---- it can be searched
-module _ (p : ImDetectParams) (z weights u : List Float) (scratch turns bases found : ℕ) (h : Handed z weights u scratch turns bases found) (f : reaches p.min_prom (highest_reading 𝟎 z) ≡ true) where
-  pub raw-searchable : Searchable p z z turns bases found
+module _ (p : ImDetectParams) (z weights : List Float) (scratch samples : ℕ) (h : Handed z weights scratch samples) (f : reaches p.min_prom (highest_reading 𝟎 z) ≡ true) where
+  pub raw-searchable : Searchable p z z samples
   raw-searchable =
       record { numbers = all-wider 0x4f80_0000 0x7f80_0000 z (omega arith) h.readings; raw = refl; short = h.short; room = h.room; floor = f }
 
@@ -82,7 +82,7 @@ module _ (p : ImDetectParams) (z weights u : List Float) (scratch turns bases fo
       go false a k = k
 
   pub smooth-searchable : (y : List Float) → y ≡ smoothed weights z → (eqb (length weights) 0 || leb (length z) 2) ≡ false → AllFit weights → AllFit z
-      → Searchable p y z turns bases found
+      → Searchable p y z samples
   smooth-searchable y e g w v =
       let l : length y ≡ length z = ap length e ∙ smoothed-length weights z in
       record {

@@ -5,9 +5,9 @@ use Rattle.limits.specs.Limits.{exact_index, max_reading}
 use Rattle.numeric.specs.Arith.{𝟎}
 use Rattle.numeric.specs.Numeric.{all_in_range}
 use Rattle.params.specs.declared.ImDetectParams.{ImDetectParams}
-use Rattle.smoothing.specs.Smoothing.{smoothed, normalised, sound_weights}
+use Rattle.smoothing.specs.Smoothing.{smoothed, sound_weights}
 use Rattle.rowsearch.specs.Qualifying.{kept}
-use Rattle.rowsearch.specs.Found.{Room, Standing}
+use Rattle.rowsearch.specs.Found.{Standing}
 use Rattle.smoothrow.specs.declared.inner.Sought.{Sought}
 use Rattle.smoothrow.specs.declared.inner.Sought.TheVariants.{Nothing, Raw, Smoothed}
 
@@ -28,15 +28,14 @@ all_zero (x ∷ xs) = eq x 𝟎 && all_zero xs
 abbrev pub NoneOfZeros : Type 0
 NoneOfZeros = (p : ImDetectParams) (ws z : List Float) → all_zero z ≡ true → kept p (searched ws z) z ≡ []
 
--- A row z that is handed in: readings in range, weights and the same divided by their sum, u; `scratch` is the length of the list for the
--- smoothed row.
-pub record Handed (z weights u : List Float) (scratch turns bases found : ℕ) : Type 0 where
+-- A row z that is handed in: readings in range, with weights; `scratch` is the length of the list for the smoothed row, and there is room for
+-- the search of so many samples.
+pub record Handed (z weights : List Float) (scratch samples : ℕ) : Type 0 where
   pub readings : all_in_range max_reading z ≡ true
   pub weighed : sound_or_none weights ≡ true
-  pub divided : u ≡ normalised weights
   pub short : length z ≤ exact_index
   pub long : length z ≤ scratch
-  pub room : Room (length z) turns bases found
+  pub room : length z ≤ samples
 
 -- What was sought: no apex is kept; or so many, found in the row itself; or in the smoothed row, which is at the front of y.
 abbrev pub Says : ImDetectParams → List Float → List Float → List Float → List ℕ → Sought → Type 0

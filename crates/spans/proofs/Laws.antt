@@ -1,6 +1,6 @@
 -- What a kept span serves for, and the words of the memo.
 use mathlib.Core.Path.{◌≡◌, refl, sym, ap, ◌∙◌}
-use mathlib.Core.Bool.{true, false}
+use mathlib.Core.Bool.{true, false, cond, Bool}
 use mathlib.Core.List.{List, ◌++◌}
 use mathlib.Core.Logic.{⊎_elim}
 use Prim.Native.Nat.{ℕ, ◌+◌, ◌-◌, ◌*◌, ◌≤◌, ◌<◌}
@@ -8,13 +8,15 @@ use native.Mathlib.Nat.{eq-or-lt_of_le, add-zero}
 use native.Mathlib.Omega.{arith}
 use borrow.Author.Tests.{lt-ltb, le-leb, lt-leb}
 use lib.Dec.{leb}
-use Rattle.refusal.proofs.Bools.{clash}
 use lib.ListN.{length, get_or, take, get_or-append}
 use lib.Seq.{get_or-take, get_or-append-add, length-take-le}
 use lib.Ieee.{Float, binary32, of_bits}
 use Rattle.apex.specs.Apex.{left_foot, right_foot, left_crossing, right_crossing}
 use Rattle.apex.proofs.Laws.{feet-same}
 use Rattle.spans.specs.Span.{reach_of, span_of}
+use Rattle.refusal.proofs.Bools.{clash}
+use Rattle.std.specs.Prelude.{Option, Some, None, is_some}
+use Rattle.spans.specs.Span.{if_wide}
 use Rattle.spans.specs.Memo.{entry, word_of, kept_span, Serves, Memo, Looked}
 use Rattle.spans.specs.Steps.{Between, Kept}
 use Rattle.spans.specs.declared.inner.Reach.{Reach}
@@ -108,14 +110,14 @@ module _ (y z : List Float) (h : Float) (i : ℕ) (r : Reach) (e : r ≡ reach_o
   reach-width = ap (λ (r : Reach). r.width) e
 
 module _ (y z : List Float) (h : Float) (i least d : ℕ) (s : Span) (m : List ℕ) (g : Memo y z m d (i + 1)) where
-  pub looked : s ≡ span_of y z h i → Looked y z h i least m (record { wide = leb least s.width; span = s; depth = d })
-  looked e = record { wide = ap (λ (s : Span). leb least s.width) e; span = λ t. e; kept = g }
+  pub looked : {r : Option Span} → r ≡ if_wide least s → s ≡ span_of y z h i → Looked y z h i least m (record { span = r; depth = d })
+  looked w e = record { span = w ∙ ap (if_wide least) e; kept = g }
 
-  pub looked-narrow : (w : ℕ) → w ≡ (span_of y z h i).width → w < least → Looked y z h i least m (record { wide = false; span = s; depth = d })
-  looked-narrow w e l = record { wide = sym (ap (leb least) (sym e) ∙ lt-leb least w l); span = λ t. clash false t refl; kept = g }
+  pub looked-narrow : (w : ℕ) → w ≡ (span_of y z h i).width → w < least → Looked y z h i least m (record { span = None; depth = d })
+  looked-narrow w e l = record { span = rw (← e, lt-leb least w l); kept = g }
 
-  pub looked-wide : (w : ℕ) → w ≡ (span_of y z h i).width → least ≤ w → s ≡ span_of y z h i → Looked y z h i least m (record { wide = true; span = s; depth = d })
-  looked-wide w e l k = record { wide = sym (ap (leb least) (sym e) ∙ le-leb least w l); span = λ t. k; kept = g }
+  pub looked-wide : (w : ℕ) → w ≡ (span_of y z h i).width → least ≤ w → s ≡ span_of y z h i → Looked y z h i least m (record { span = Some s; depth = d })
+  looked-wide w e l k = record { span = ap (λ (r : Span). Some r) k ∙ sym (ap (λ (b : Bool). cond b (Some (span_of y z h i)) None) (ap (leb least) (sym e) ∙ le-leb least w l)); kept = g }
 
 -- the last of d spans serves
 pub serves-at : (y z : List Float) (h : Float) (i d w : ℕ) (m : List ℕ) (s : Span) → Memo y z m d i → 0 < d → i < word_of m (d - 1) 2
@@ -124,3 +126,22 @@ serves-at y z h i d w m s g p b e f k =
     let v = g.all (d - 1) (omega arith) in
     let q : word_of m (d - 1) 0 ≡ w = rw add-zero e in
     k ∙ v.serves i v.behind b ∙ ap (λ (x : Float). span_of y z x i) (ap (of_bits binary32) q ∙ f)
+
+-- ---- a span that is answered only where it is wide enough
+pub none-narrow : (least : ℕ) (s : Span) → if_wide least s ≡ None → leb least s.width ≡ false
+none-narrow least s e = go (leb least s.width) e
+  where
+    go : (b : Bool) → cond b (Some s) None ≡ None → b ≡ false
+    go true e = clash true refl (ap is_some e)
+    go false e = refl
+
+pub some-wide : (least : ℕ) (s a : Span) → if_wide least s ≡ Some a → (leb least s.width ≡ true) × (a ≡ s)
+some-wide least s a e = go (leb least s.width) e
+  where
+    got : Option Span → Span
+    got (Some x) = x
+    got None = s
+
+    go : (b : Bool) → cond b (Some s) None ≡ Some a → (b ≡ true) × (a ≡ s)
+    go true e = (refl, sym (ap got e))
+    go false e = clash true refl (sym (ap is_some e))

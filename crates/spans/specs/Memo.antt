@@ -1,9 +1,9 @@
 -- Spans that were measured once and serve again. All readings between the feet of a long span are above its height, so an apex between
 -- them that has the same height has the same span.
-use Rattle.std.specs.Prelude.{◌≡◌, true, List, ℕ, ◌+◌, ◌*◌, ◌≤◌, ◌<◌, leb, length, get_or, Float}
+use Rattle.std.specs.Prelude.{◌≡◌, List, ℕ, ◌+◌, ◌*◌, ◌≤◌, ◌<◌, length, get_or, Float}
 use Rattle.std.specs.Float.{binary32}
 use Rattle.std.specs.Float.Ieee.{of_bits}
-use Rattle.spans.specs.Span.{span_of}
+use Rattle.spans.specs.Span.{span_of, if_wide}
 use Rattle.spans.specs.declared.inner.Span.{Span}
 use Rattle.spans.specs.declared.inner.Look.{Look}
 
@@ -36,8 +36,7 @@ pub record Memo (y z : List Float) (memo : List ℕ) (d i : ℕ) : Type 0 where
   pub few : d * entry ≤ length memo
   pub all : (t : ℕ) → t < d → Serves y z memo i t
 
--- what is seen of the apex at i: whether it is wide enough, and if so its span; the memo then has `depth` spans
+-- what is seen of the apex at i: its span, where it is wide enough; the memo then has `depth` spans
 pub record Looked (y z : List Float) (h : Float) (i least : ℕ) (memo : List ℕ) (r : Look) : Type 0 where
-  pub wide : r.wide ≡ leb least (span_of y z h i).width
-  pub span : r.wide ≡ true → r.span ≡ span_of y z h i
+  pub span : r.span ≡ if_wide least (span_of y z h i)
   pub kept : Memo y z memo r.depth (i + 1)

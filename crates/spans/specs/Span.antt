@@ -1,5 +1,5 @@
 -- How far an apex reaches at a height: y is the row that is searched, z the raw one.
-use Rattle.std.specs.Prelude.{List, ℕ, ◌-◌, length, Float}
+use Rattle.std.specs.Prelude.{cond, List, ℕ, ◌-◌, leb, length, Float, Option, Some, None}
 use Rattle.numeric.specs.Arith.{◌⊖◌, 𝟎, index_f}
 use Rattle.numeric.specs.Numeric.{max_f, min_f, clamp_f, cast_f}
 use Rattle.rounding.specs.Rounding.{floor_f, ceil_f, round_f}
@@ -37,3 +37,7 @@ span_of y z h i =
       right_x = rx;
       area = area_f z (max_f lx 𝟎) (min_f rx (index_f (n - 1)));
     }
+
+-- a span, where it is at least so wide
+abbrev pub if_wide : ℕ → Span → Option Span
+if_wide least s = cond (leb least s.width) (Some s) None

@@ -3,7 +3,7 @@ ghost use Rattle.std.specs.Prelude.{◌≡◌, true, [], ◌∷◌, ◌++◌, �
 ghost use Rattle.std.specs.Float.{binary32};
 ghost use Rattle.std.specs.Float.Ieee.{of_bits};
 ghost use Rattle.limits.specs.Limits.{exact_index};
-ghost use Rattle.spans.specs.Span.{width_of, reach_of, span_of};
+ghost use Rattle.spans.specs.Span.{width_of, reach_of, span_of, if_wide};
 ghost use Rattle.spans.specs.Memo.{entry, word_of, kept_span, Memo, Looked};
 ghost use Rattle.spans.specs.Steps.{Open, Between, Kept};
 
@@ -34,11 +34,23 @@ pub struct Span {
     pub area: f32,
 }
 
-// What is seen of an apex: whether it is wide enough, its span if so, and how many spans the memo has then.
+impl Span {
+    // The span, where it is wide enough.
+    fn if_wide(self, least: u32) -> Option<Span>
+        ensures { result ≡ if_wide least self }
+    {
+        if self.width >= least {
+            Some(self)
+        } else {
+            None
+        }
+    }
+}
+
+// What is seen of an apex: its span, where it is wide enough, and how many spans the memo has then.
 #[derive(Clone, Copy)]
 pub struct Look {
-    pub wide: bool,
-    pub span: Span,
+    pub span: Option<Span>,
     pub depth: usize,
 }
 
@@ -116,6 +128,7 @@ fn still_open(memo: &[u32], depth: usize, i: usize) -> usize
     ensures { Open memo.now depth i result }
 {
     let mut d = depth;
+    // A `while`: it ends at the first span that is open, and how many are left is the answer.
     while d > 0 && memo[(d - 1) * ENTRY + 2] as usize <= i {
         d -= 1;
     }
@@ -216,39 +229,27 @@ fn measure(y: &[f32], z: &[f32], h: f32, i: usize, least: u32, memo: &mut [u32],
     let r = reach_of(y, h, i);
     if is_long(r.left_foot, r.right_foot, i) {
         let s = span_of(y, z, h, i, r);
-        let wide = s.width >= least;
         let depth = d + 1;
         if depth * ENTRY <= memo.len() {
             keep(memo, d, h, r.left_foot, r.right_foot, s);
             return Look {
-                wide,
-                span: s,
+                span: s.if_wide(least),
                 depth,
             };
         }
         return Look {
-            wide,
-            span: s,
+            span: s.if_wide(least),
             depth: d,
         };
     }
     if r.width < least {
         return Look {
-            wide: false,
-            span: Span {
-                left: 0,
-                right: 0,
-                width: 0,
-                left_x: 0.0,
-                right_x: 0.0,
-                area: 0.0,
-            },
+            span: None,
             depth: d,
         };
     }
     Look {
-        wide: true,
-        span: span_of(y, z, h, i, r),
+        span: Some(span_of(y, z, h, i, r)),
         depth: d,
     }
 }
@@ -271,8 +272,7 @@ pub fn look_at(
         if memo[(d - 1) * ENTRY] == kept_word(h) {
             let s = kept_span(memo, d - 1);
             return Look {
-                wide: s.width >= least,
-                span: s,
+                span: s.if_wide(least),
                 depth: d,
             };
         }

@@ -7,7 +7,10 @@ use borrow.Author.Tests.{ltb-false, not-false}
 use lib.Dec.{ltb}
 use lib.ListN.{length, take, drop}
 use lib.Seq.{take_at, drop_at}
-use Rattle.refusal.proofs.AnswersLaws.{says-number, says-values}
+use Rattle.std.specs.Prelude.{Ok, Err}
+use Rattle.refusal.specs.declared.Refusal.{Refusal}
+use Rattle.refusal.specs.Numbered.{number_of}
+use Rattle.refusal.proofs.NumberedLaws.{number_of-positive, says-err, says-ok}
 use Rattle.refusal.proofs.Bools.{neither}
 use Rattle.limits.specs.Limits.{max_list}
 use Rattle.record.specs.Record.{size}
@@ -21,7 +24,6 @@ use Rattle.distinct.proofs.Laws.{order-length}
 use Rattle.passes.specs.Stitching.{stitched}
 use Rattle.passes.specs.Steps.{Stitched}
 use Rattle.stitch.specs.declared.numbers.Rooms.{Rooms}
-use Rattle.stitch.specs.declared.StitchAnswer.TheVariants.{Stitched as Counted, Refused}
 use Rattle.stitch.specs.StitchNumber.{count_in, peaks_in, stitch_number, other_number}
 use Rattle.stitch.specs.Answer.{Lent, number_for, Answered}
 use Rattle.stitch.proofs.StitchNumberLaws.{none-for, no_other}
@@ -80,21 +82,21 @@ pub answered : (told : Bool) (list : List ℕ) (params : StitchParams) (was is :
     → Stitched params (peaks_in list) was.out was.owners count is.out is.owners
     → drop (count_in list) is.order ≡ drop (count_in list) was.order → drop (count_in list) is.groups ≡ drop (count_in list) was.groups
     → drop (count_in list * size) is.keys ≡ drop (count_in list * size) was.keys → drop (count_in list * size) is.merged ≡ drop (count_in list * size) was.merged
-    → Answered told list params was is (Counted count)
+    → Answered told list params was is (Ok count)
 answered told list params was is count e s o g k m =
     let n : length (peaks_in list) ≡ count_in list = peaks-length list (count_in list) in
     record {
-      answered = says-values (length (stitched params (peaks_in list))) (sym e) refl s.counted;
+      answered = says-ok (length (stitched params (peaks_in list))) (sym e) s.counted;
       accepted = λ z. record { records = rw s.counted at s.records; column = s.column; order = rw n o; groups = rw n g; keys = rw n k; merged = rw n m };
       refused = λ z. absurd (z e);
     }
 
 -- to a list with another number, whose lists are as they were
-pub refused : (number : ℕ) (told : Bool) (list : List ℕ) (params : StitchParams) (was : Lent) → number ≡ number_for told list params was → (number ≡ 0 → ⊥)
-    → Answered told list params was was (Refused number)
-refused number told list params was e h =
+pub refused : (number : Refusal) (told : Bool) (list : List ℕ) (params : StitchParams) (was : Lent) → number_of number ≡ number_for told list params was
+    → Answered told list params was was (Err number)
+refused number told list params was e =
     record {
-      answered = says-number (length (stitched params (peaks_in list))) e h;
-      accepted = λ z. absurd (h (e ∙ z));
+      answered = says-err number (length (stitched params (peaks_in list))) e;
+      accepted = λ z. absurd (number_of-positive number (e ∙ z));
       refused = λ z. refl;
     }

@@ -1,4 +1,4 @@
--- What the number of a list to stitch says, and which answer it is.
+-- What the number of a list to stitch says.
 use mathlib.Core.Path.{◌≡◌, refl, sym}
 use mathlib.Core.Bool.{Bool, true, false, cond, ◌&&◌}
 use mathlib.Core.List.{List, [], ◌∷◌}
@@ -9,16 +9,12 @@ use lib.Dec.{ltb}
 use Rattle.refusal.specs.Refusal.{Check, first_of, ascending_from}
 use Rattle.refusal.proofs.Bools.{both}
 use Rattle.refusal.proofs.RefusalLaws.{lowest_by, none-by, applies_for}
-use Rattle.refusal.specs.AnswersLaws.{from_says}
-use Rattle.refusal.proofs.AnswersLaws.{which}
 use Rattle.limits.specs.Limits.{max_list}
 use Rattle.distinct.specs.Distinct.{distinct_ids}
 use Rattle.matching.specs.declared.StitchParams.{StitchParams}
 use Rattle.stitch.specs.declared.numbers.Rooms.{Rooms}
-use Rattle.stitch.specs.declared.StitchAnswer.{StitchAnswer}
-use Rattle.stitch.specs.declared.StitchAnswer.TheVariants.{Stitched, Refused}
-use Rattle.stitch.specs.StitchNumber.{count_in, peaks_in, stitch_checks, stitch_number, but, other_number, stitch_says}
-use Rattle.stitch.specs.StitchNumberLaws.{StitchLowest, StitchTold}
+use Rattle.stitch.specs.StitchNumber.{count_in, peaks_in, stitch_checks, stitch_number, but, other_number}
+use Rattle.stitch.specs.StitchNumberLaws.{StitchLowest}
 
 module _ (told : Bool) (list : List ℕ) (params : StitchParams) (room : Rooms) where
   pub number_is : stitch_number told list params room ≡ first_of (stitch_checks told list params room)
@@ -120,11 +116,3 @@ first_under (c ∷ cs) h = go c.applies (both (ltb c.number 64) h) (first_under 
 pub number-under : (told : Bool) (list : List ℕ) (params : StitchParams) (room : Rooms) → stitch_number told list params room < 64
 unfolding all_under
 number-under told list params room = rw (number_is told list params room) (first_under (stitch_checks told list params room) refl)
-
--- an answer is told by what it says
-again : (r : StitchAnswer) → r ≡ from_says Stitched Refused (stitch_says r)
-again (Stitched count) = refl
-again (Refused n) = refl
-
-pub stitch-which : StitchTold
-stitch-which r n count e = which Stitched Refused stitch_says again r n count e

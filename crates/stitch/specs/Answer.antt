@@ -1,14 +1,16 @@
 -- What is left of a list to stitch, accepted or refused.
-use Rattle.std.specs.Prelude.{◌≡◌, Bool, List, ◌++◌, ℕ, ◌*◌, length, drop}
+use Rattle.std.specs.Prelude.{◌≡◌, Bool, Result, List, ◌++◌, ℕ, ◌*◌, length, drop}
+use Rattle.refusal.specs.declared.Refusal.{Refusal}
 use Rattle.refusal.specs.Answers.{answer_by}
+use Rattle.refusal.specs.Numbered.{says}
 use Rattle.record.specs.Record.{size}
 use Rattle.record.specs.declared.ImPeak1D.{ImPeak1D}
 use Rattle.peaklist.specs.PeakList.{list_words}
 use Rattle.matching.specs.declared.StitchParams.{StitchParams}
 use Rattle.passes.specs.Stitching.{stitched, owners_of}
+use Rattle.passes.specs.Left.{Left, out_in, owners_in, order_in, groups_in, keys_in, merged_in}
 use Rattle.stitch.specs.declared.numbers.Rooms.{Rooms}
-use Rattle.stitch.specs.declared.StitchAnswer.{StitchAnswer}
-use Rattle.stitch.specs.StitchNumber.{peaks_in, stitch_number, stitch_says}
+use Rattle.stitch.specs.StitchNumber.{peaks_in, stitch_number}
 
 -- the six lists that are lent: two for the answer, and four of scratch
 pub record Lent : Type 0 where
@@ -22,6 +24,10 @@ pub record Lent : Type 0 where
 abbrev pub lent : List ℕ → List ℕ → List ℕ → List ℕ → List ℕ → List ℕ → Lent
 lent out owners order groups keys merged =
     record { out = out; owners = owners; order = order; groups = groups; keys = keys; merged = merged }
+
+-- as they are left where a function returns
+abbrev pub left : Left → Lent
+left l = lent (out_in l) (owners_in l) (order_in l) (groups_in l) (keys_in l) (merged_in l)
 
 -- how long they are
 abbrev pub rooms_of : Lent → Rooms
@@ -49,7 +55,7 @@ pub record Written (params : StitchParams) (ps : List ImPeak1D) (was is : Lent) 
   pub merged : drop (length ps * size) is.merged ≡ drop (length ps * size) was.merged
 
 -- The answer, and what the lists hold then. Accepted, with number 0: what is written. Refused: all as it was.
-pub record Answered (told : Bool) (list : List ℕ) (params : StitchParams) (was is : Lent) (answer : StitchAnswer) : Type 0 where
-  pub answered : stitch_says answer ≡ answer_by (number_for told list params was) (length (stitched params (peaks_in list)))
+pub record Answered (told : Bool) (list : List ℕ) (params : StitchParams) (was is : Lent) (answer : Result ℕ Refusal) : Type 0 where
+  pub answered : says answer ≡ answer_by (number_for told list params was) (length (stitched params (peaks_in list)))
   pub accepted : number_for told list params was ≡ 0 → Written params (peaks_in list) was is
   pub refused : (number_for told list params was ≡ 0 → ⊥) → is ≡ was

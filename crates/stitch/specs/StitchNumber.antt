@@ -1,8 +1,6 @@
 -- Which number of document 01 a list to stitch is answered with, 0 for none.
 use Rattle.std.specs.Prelude.{Bool, cond, not, ◌&&◌, ◌||◌, List, [], ◌∷◌, ℕ, ◌*◌, ◌/◌, ◌%◌, ltb, eqb, length}
-use Rattle.std.proofs.Math.Option.{none, some}
 use Rattle.refusal.specs.Refusal.{Check, first_of}
-use Rattle.refusal.specs.Answers.{Says}
 use Rattle.limits.specs.Limits.{max_list}
 use Rattle.record.specs.Record.{size, all_sound}
 use Rattle.record.specs.declared.ImPeak1D.{ImPeak1D}
@@ -11,8 +9,6 @@ use Rattle.matching.specs.Matching.{sound_stitch}
 use Rattle.matching.specs.declared.StitchParams.{StitchParams}
 use Rattle.distinct.specs.Distinct.{distinct_ids}
 use Rattle.stitch.specs.declared.numbers.Rooms.{Rooms}
-use Rattle.stitch.specs.declared.StitchAnswer.{StitchAnswer}
-use Rattle.stitch.specs.declared.StitchAnswer.TheVariants.{Stitched, Refused}
 
 -- how many records a list of words has, and its peaks
 abbrev pub count_in : List ℕ → ℕ
@@ -51,8 +47,3 @@ but n (c ∷ cs) = cond (eqb c.number n) (but n cs) (c ∷ but n cs)
 -- the lowest number but 8 that applies, 0 for none: the identities are looked at after all else
 unfoldable pub other_number : Bool → List ℕ → StitchParams → Rooms → ℕ
 other_number told list params room = first_of (but 8 (stitch_checks told list params room))
-
--- what an answer says: the count of stitched peaks, or the number that applies
-abbrev pub stitch_says : StitchAnswer → Says ℕ
-stitch_says (Stitched count) = record { number = 0; values = some count }
-stitch_says (Refused n) = record { number = n; values = none }

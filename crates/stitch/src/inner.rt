@@ -1,28 +1,32 @@
 // The entry, for a caller that may know a further reason for number 4.
-ghost use Rattle.stitch.specs.Answer.{lent, Answered};
+ghost use Rattle.stitch.specs.Answer.{lent, left, Answered};
 
-use super::StitchAnswer;
 use super::numbers::Rooms;
 use matching::StitchParams;
+use passes::Lent;
 use record::ImPeak1D;
+use refusal::Refusal;
 
 // Where `told` is false number 4 applies whatever the parameters are.
 pub fn stitch_told(
     list: &[u32],
     params: StitchParams,
     told: bool,
-    out: &mut [u32],
-    owners: &mut [u32],
-    order: &mut [u32],
-    groups: &mut [u32],
-    keys: &mut [u32],
-    merged: &mut [u32],
-) -> StitchAnswer
+    lists: Lent,
+) -> Result<usize, Refusal>
     ensures { Answered told list.now params
-        (lent out.old owners.old order.old groups.old keys.old merged.old)
-        (lent out.new owners.new order.new groups.new keys.new merged.new)
+        (lent lists.entry.out.now lists.entry.owners.now lists.entry.order.now lists.entry.groups.now lists.entry.keys.now lists.entry.merged.now)
+        (left lists.exit)
         result }
 {
+    let Lent {
+        out,
+        owners,
+        order,
+        groups,
+        keys,
+        merged,
+    } = lists;
     let room = Rooms {
         out: out.len(),
         owners: owners.len(),
@@ -31,22 +35,31 @@ pub fn stitch_told(
         keys: keys.len(),
         merged: merged.len(),
     };
-    // number 8 is found last, since what finds it leaves the order that stitching starts from
-    let no = super::numbers::other_number(list, params, told, room);
     let n = list.len() / ImPeak1D::WORDS;
-    if no == 0 {
-        if distinct::inner::put_by_identity(list, n, order) {
-            return StitchAnswer::Stitched(passes::inner::stitch_peaks(
-                list, n, params, out, owners, order, groups, keys, merged,
-            ));
+    // an identity twice is found last, since what finds it leaves the order that stitching starts from
+    match super::numbers::check(list, params, told, room) {
+        Ok(()) => {}
+        Err(refusal) => {
+            if refusal.number() < 8 {
+                return Err(refusal);
+            }
+            if distinct::inner::all_distinct(list, n) {
+                return Err(refusal);
+            }
+            return Err(Refusal::Identity);
         }
-        return StitchAnswer::Refused(8);
     }
-    if no < 8 {
-        return StitchAnswer::Refused(no);
+    if distinct::inner::put_by_identity(list, n, order) {
+        let lists = Lent {
+            out,
+            owners,
+            order,
+            groups,
+            keys,
+            merged,
+        };
+        let count = passes::inner::stitch_peaks(list, n, params, lists);
+        return Ok(count);
     }
-    if distinct::inner::all_distinct(list, n) {
-        return StitchAnswer::Refused(no);
-    }
-    StitchAnswer::Refused(8)
+    Err(Refusal::Identity)
 }

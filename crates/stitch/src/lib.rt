@@ -8,15 +8,12 @@ ghost use Rattle.std.specs.Prelude.{true};
 ghost use Rattle.stitch.specs.Answer.{lent, Answered};
 
 use matching::StitchParams;
-
-#[derive(Clone, Copy)]
-pub enum StitchAnswer {
-    Stitched(usize),
-    Refused(u32),
-}
+use passes::Lent;
+use refusal::Refusal;
 
 // Writes the records of the stitched peaks to the front of `out`, and for each peak of the list the place of its stitched one to the
-// front of `owners`; or answers with a number and leaves all six lists as they are.
+// front of `owners`; or refuses with the lowest number that applies and leaves all six lists as they are. The six are not lent as one `Lent`
+// here: the prover loses what becomes of a lent struct that is passed on whole.
 pub fn stitch_im_peaks_flat_unordered_impl(
     list: &[u32],
     params: StitchParams,
@@ -26,11 +23,19 @@ pub fn stitch_im_peaks_flat_unordered_impl(
     groups: &mut [u32],
     keys: &mut [u32],
     merged: &mut [u32],
-) -> StitchAnswer
+) -> Result<usize, Refusal>
     ensures { Answered true list.now params
         (lent out.old owners.old order.old groups.old keys.old merged.old)
         (lent out.new owners.new order.new groups.new keys.new merged.new)
         result }
 {
-    inner::stitch_told(list, params, true, out, owners, order, groups, keys, merged)
+    let lists = Lent {
+        out,
+        owners,
+        order,
+        groups,
+        keys,
+        merged,
+    };
+    inner::stitch_told(list, params, true, lists)
 }

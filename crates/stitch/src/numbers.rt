@@ -1,9 +1,11 @@
 // The numbers of a list to stitch.
 ghost use Rattle.std.specs.Prelude.{◌≡◌};
+ghost use Rattle.refusal.specs.Numbered.{number_in};
 ghost use Rattle.stitch.specs.StitchNumber.{other_number};
 
 use matching::StitchParams;
 use record::ImPeak1D;
+use refusal::Refusal;
 
 // The lengths of the lists that are lent.
 #[derive(Clone, Copy)]
@@ -16,29 +18,30 @@ pub struct Rooms {
     pub merged: usize,
 }
 
-// The lowest number but 8 that applies, or 0. Where `told` is false number 4 applies whatever the parameters are.
-pub fn other_number(list: &[u32], params: StitchParams, told: bool, room: Rooms) -> u32
-    ensures { result ≡ other_number told list.now params room }
+// Refuses with the lowest number but 8 that applies. Where `told` is false number 4 applies whatever the parameters are.
+#[tactic(auto, unfolding(crate::specs::StitchNumber::other_number, refusal::specs::Refusal::first_of))]
+pub fn check(list: &[u32], params: StitchParams, told: bool, room: Rooms) -> Result<(), Refusal>
+    ensures { number_in result ≡ other_number told list.now params room }
 {
     if list.len() % ImPeak1D::WORDS != 0 {
-        return 1;
+        return Err(Refusal::Lengths);
     }
     let n = list.len() / ImPeak1D::WORDS;
     if n > limits::MAX_LIST {
-        return 2;
+        return Err(Refusal::Size);
     }
-    if !(told & matching::inner::sound_stitch_params(params)) {
-        return 4;
+    if !(told & params.is_sound()) {
+        return Err(Refusal::Value);
     }
     if !record::inner::all_sound(list, n) {
-        return 9;
+        return Err(Refusal::Record);
     }
     let words = n * ImPeak1D::WORDS;
     if (room.out < words) | (room.owners < n) {
-        return 20;
+        return Err(Refusal::Room);
     }
     if (room.order < n) | (room.groups < n) | (room.keys < words) | (room.merged < words) {
-        return 21;
+        return Err(Refusal::Scratch);
     }
-    0
+    Ok(())
 }

@@ -7,6 +7,9 @@ use native.Mathlib.Omega.{arith}
 use lib.Dec.{eqb}
 use lib.ListN.{length, length-append, length-map}
 use borrow.Author.Tests.{eqb-true, eqb-false}
+use Rattle.std.specs.Prelude.{Result, Ok, Err}
+use Rattle.refusal.specs.declared.Refusal.{Refusal}
+use Rattle.refusal.proofs.NumberedLaws.{which as answer-which}
 use Rattle.peaklist.proofs.PeakListLaws.{peaks-length, peaks-fit, words-length}
 use Rattle.digits.specs.Sorted.{up_to}
 use Rattle.digits.proofs.UpTo.{upto-length}
@@ -14,11 +17,9 @@ use Rattle.matching.specs.declared.StitchParams.{StitchParams}
 use Rattle.distinct.proofs.DistinctLaws.{distinct-tells}
 use Rattle.passes.specs.Stitching.{stitched, owner_of, owners_of}
 use Rattle.passes.proofs.Account.{left-account}
-use Rattle.stitch.specs.declared.StitchAnswer.{StitchAnswer}
-use Rattle.stitch.specs.declared.StitchAnswer.TheVariants.{Stitched, Refused}
 use Rattle.stitch.specs.StitchNumber.{count_in, peaks_in}
 use Rattle.stitch.specs.Answer.{Lent, rooms_of, number_for, Written}
-use Rattle.stitch.proofs.StitchNumberLaws.{number-under, stitch-which}
+use Rattle.stitch.proofs.StitchNumberLaws.{number-under}
 use Rattle.stitch.proofs.Laws.{accepted}
 use Rattle.capi.specs.Entry.{entry_answer}
 use Rattle.stitchlaws.specs.StitchAccount.{Accounted, AcceptedAccounted, CountAccounts, CallAccounts}
@@ -45,19 +46,19 @@ pub accepted-accounted : AcceptedAccounted
 accepted-accounted told list params was is answer a e =
     record {
       count = length (stitched params (peaks_in list));
-      answered = rw e at (stitch-which answer (number_for told list params was) (length (stitched params (peaks_in list))) a.answered);
+      answered = rw e at (answer-which ℕ answer (number_for told list params was) (length (stitched params (peaks_in list))) a.answered);
       accounted = written-account told list params was is e (a.accepted e);
     }
 
 -- the count of an answer that is one
-count_of : StitchAnswer → ℕ
-count_of (Stitched count) = count
-count_of (Refused n) = 0
+count_of : Result ℕ Refusal → ℕ
+count_of (Ok count) = count
+count_of (Err e) = 0
 
 pub count-accounts : CountAccounts
 unfolding count_of
 count-accounts told list params was is count a =
-    let b = accepted-accounted told list params was is (Stitched count) a (sym (ap (λ s. s.number) a.answered)) in
+    let b = accepted-accounted told list params was is (Ok count) a (sym (ap (λ s. s.number) a.answered)) in
     let e : count ≡ b.count = ap count_of b.answered in
     rw e b.accounted
 

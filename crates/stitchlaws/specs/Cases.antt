@@ -1,8 +1,10 @@
 -- A worked case, which need not be read to know what is promised: a list of three peaks that is accepted, and of which two are merged.
-use Rattle.std.specs.Prelude.{◌≡◌, refl, true, List, [], ◌∷◌, ℕ, length}
+use Rattle.std.specs.Prelude.{◌≡◌, refl, true, Result, Ok, List, [], ◌∷◌, ℕ, length}
 use Rattle.std.proofs.Common.{ap}
 use Rattle.std.specs.Float.Ieee.{lt, le, of_bits, to_bits, of_int}
 use Rattle.refusal.specs.Refusal.{first_of}
+use Rattle.refusal.specs.declared.Refusal.{Refusal}
+use Rattle.refusal.proofs.NumberedLaws.{which}
 use Rattle.numeric.specs.Numeric.{in_range}
 use Rattle.record.specs.Record.{peak_from, sound, sound_tof, sound_frames, sound_options, sound_scans, sound_shape, all_sound}
 use Rattle.peaklist.specs.PeakList.{peaks_of, list_words}
@@ -13,9 +15,7 @@ use Rattle.grouping.specs.Grouping.{group_peaks}
 use Rattle.grouping.specs.Cases.{three}
 use Rattle.passes.specs.Stitching.{first_peaks, stitched}
 use Rattle.passes.specs.Cases.{second-groups, owners}
-use Rattle.stitch.specs.declared.StitchAnswer.{StitchAnswer}
-use Rattle.stitch.specs.declared.StitchAnswer.TheVariants.{Stitched}
-use Rattle.stitch.specs.StitchNumber.{peaks_in, stitch_number, stitch_says}
+use Rattle.stitch.specs.StitchNumber.{peaks_in, stitch_number}
 use Rattle.stitch.specs.Answer.{Lent, lent, number_for, Answered}
 
 -- the words of three peaks in rows 102, 200 and 100, and lists that have room for them, whatever they hold
@@ -42,6 +42,6 @@ two = ap (λ (gs : List (List ℕ)). length (group_peaks (first_peaks (asked 2 1
 
 -- So the entry can give no other answer and no other owners, whatever stands in the lists that are lent: rows 102 and 100 have the
 -- owner 0, and row 200 the owner 1.
-pub answered : (is : Lent) (answer : StitchAnswer) → Answered true list (asked 2 10) before is answer
-    → (stitch_says answer ≡ stitch_says (Stitched 2)) × (is.owners ≡ 0 ∷ 1 ∷ 0 ∷ [])
-answered is answer a = (rw (accepted, peaks, two) at a.answered, rw (peaks, owners) at (a.accepted accepted).column)
+pub answered : (is : Lent) (answer : Result ℕ Refusal) → Answered true list (asked 2 10) before is answer
+    → (answer ≡ Ok 2) × (is.owners ≡ 0 ∷ 1 ∷ 0 ∷ [])
+answered is answer a = (which ℕ answer 0 2 (rw (accepted, peaks, two) at a.answered), rw (peaks, owners) at (a.accepted accepted).column)

@@ -1,12 +1,11 @@
 -- What may be relied on where a list was stitched: the stitched records and the owner column, as they stand in the lists that were lent,
 -- account for the peaks of the list. It follows from the contract of the entry alone, for every list, all parameters and all lists that
 -- are lent. Proved in proofs/StitchAccount.antt.
-use Rattle.std.specs.Prelude.{◌≡◌, Bool, List, ℕ, ◌*◌, ◌/◌, ◌%◌, ◌≤◌, length}
+use Rattle.std.specs.Prelude.{◌≡◌, Bool, Result, Ok, List, ℕ, ◌*◌, ◌/◌, ◌%◌, ◌≤◌, length}
+use Rattle.refusal.specs.declared.Refusal.{Refusal}
 use Rattle.record.specs.Record.{size}
 use Rattle.matching.specs.declared.StitchParams.{StitchParams}
 use Rattle.passes.specs.Account.{StitchedAccount}
-use Rattle.stitch.specs.declared.StitchAnswer.{StitchAnswer}
-use Rattle.stitch.specs.declared.StitchAnswer.TheVariants.{Stitched}
 use Rattle.stitch.specs.StitchNumber.{count_in, peaks_in}
 use Rattle.stitch.specs.Answer.{Lent, number_for, Answered}
 use Rattle.capi.specs.Stitching.{Answered as CallAnswered}
@@ -22,21 +21,21 @@ pub record Accounted (list : List ℕ) (is : Lent) (count : ℕ) : Type 0 where
   pub account : StitchedAccount (peaks_in list) count is.out is.owners
 
 -- the answer is a count, and so many stitched peaks account for the list
-pub record Counted (list : List ℕ) (is : Lent) (answer : StitchAnswer) : Type 0 where
+pub record Counted (list : List ℕ) (is : Lent) (answer : Result ℕ Refusal) : Type 0 where
   pub count : ℕ
-  pub answered : answer ≡ Stitched count
+  pub answered : answer ≡ Ok count
   pub accounted : Accounted list is count
 
 -- So it is where no number applies. The entry has `true` for `told`: `accepted-accounted` in proofs/StitchAccount.antt
 abbrev pub AcceptedAccounted : Type 0
 AcceptedAccounted =
-    (told : Bool) (list : List ℕ) (params : StitchParams) (was is : Lent) (answer : StitchAnswer) → Answered told list params was is answer
+    (told : Bool) (list : List ℕ) (params : StitchParams) (was is : Lent) (answer : Result ℕ Refusal) → Answered told list params was is answer
     → number_for told list params was ≡ 0 → Counted list is answer
 
 -- And so it is where the answer is a count, which is what a caller sees: `count-accounts`
 abbrev pub CountAccounts : Type 0
 CountAccounts =
-    (told : Bool) (list : List ℕ) (params : StitchParams) (was is : Lent) (count : ℕ) → Answered told list params was is (Stitched count)
+    (told : Bool) (list : List ℕ) (params : StitchParams) (was is : Lent) (count : ℕ) → Answered told list params was is (Ok count)
     → Accounted list is count
 
 -- The same of the C entry, from its contract. It answers 64 times the count, or a number, all of which are below 64, so that a caller tells a

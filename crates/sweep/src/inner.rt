@@ -30,8 +30,8 @@ fn settle(bases: &mut [u32], stack: &[u32], t: usize, low: u32) -> u32
     ensures { (result ≡ min (gap_at stack.now t) low) × (bases.new ≡ based bases.old stack.now t low) }
 {
     let j = stack[2 * t] as usize;
-    bases[j] = numeric::inner::higher(bases[j], low);
-    numeric::inner::lower(stack[2 * t + 1], low)
+    bases[j] = bases[j].max(low);
+    stack[2 * t + 1].min(low)
 }
 
 // Takes the apexes below h off the stack, where a walk to their right ends at the apex k, and settles their bases. Those that stay are
@@ -50,22 +50,19 @@ fn pop(
     requires { Marked y.now turns.now m × Roomy m k bases.old stack.now × Stacked (mark_at y.now turns.now) m k bases.old stack.now depth low × Walks (mark_at y.now turns.now) k stack.now depth × Ends (mark_at y.now turns.now) m k h }
     ensures { Popped (mark_at y.now turns.now) m k h bases.new stack.now low result.depth result.low }
 {
-    let mut d = depth;
     let mut least = low;
-    while d > 0 {
-        let t = d - 1;
+    for t in (0..depth).rev() {
         let j = stack[2 * t] as usize;
         if h <= mark(y, turns, 2 * j + 1) {
             return Rest {
-                depth: d,
+                depth: t + 1,
                 low: least,
             };
         }
         least = settle(bases, stack, t, least);
-        d = t;
     }
     Rest {
-        depth: d,
+        depth: 0,
         low: least,
     }
 }
@@ -93,7 +90,7 @@ fn left_of(
     if h < mark(y, turns, 2 * j + 1) {
         return low;
     }
-    numeric::inner::lower(bases[j], low)
+    bases[j].min(low)
 }
 
 // Passes the apex k: those below it leave the stack, and it is put on top. Answers how many entries there are then.
@@ -132,11 +129,9 @@ fn settle_all(
     requires { Roomy m m bases.old stack.now × Stacked (mark_at y.now turns.now) m m bases.old stack.now depth low }
     ensures { Based (mark_at y.now turns.now) m bases.new }
 {
-    let mut d = depth;
     let mut least = low;
-    while d > 0 {
-        d -= 1;
-        least = settle(bases, stack, d, least);
+    for t in (0..depth).rev() {
+        least = settle(bases, stack, t, least);
     }
 }
 

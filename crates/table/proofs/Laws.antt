@@ -1,4 +1,14 @@
 -- Laws of lines that are read byte by byte.
+use Rattle.std.specs.List.{position, position_or_len, position_from}
+use Rattle.std.specs.Option.{option_map, unwrap_or, is_some, MatchOption}
+use Rattle.std.proofs.lemmas.List.Recursion.{is_position_or_len}
+use Rattle.std.proofs.lemmas.List.Sums.{prefix_len-le-length}
+use Rattle.std.proofs.lemmas.List.Quantifiers.{position-Some}
+use Rattle.std.proofs.lemmas.Iterator.Adapters.{position_from-zero}
+use Rattle.std.proofs.Math.Numerals.{one-add}
+use Rattle.std.proofs.Common.{add_assoc, not}
+use Rattle.std.proofs.Common.{Option, Some, None}
+use Rattle.params.specs.declared.ImDetectParams.{ImDetectParams}
 use mathlib.Core.Path.{◌≡◌, refl, sym, ◌∙◌, ap, subst}
 use mathlib.Core.Bool.{Bool, true, false, cond, ◌&&◌, ◌||◌}
 use mathlib.Core.List.{List, [], ◌∷◌, ◌++◌, map, append_assoc}
@@ -11,14 +21,11 @@ use lib.Dec.{leb, ltb, eqb}
 use lib.ListN.{length, get_or, take, drop, set, length-drop, length-map, drop_of_length-le}
 use lib.Seq.{drop-cons, take-suc, set_at, length-take-le, take_all, drop-drop, drop-append-add, drop-set-lt}
 use lib.Ieee.{Float}
-use Rattle.limits.specs.Limits.{max_count, last_row}
+use Rattle.limits.specs.Limits.{last_row}
 use Rattle.numeric.specs.Arith.{index_f}
 use Rattle.refusal.proofs.Bools.{clash, both, all3}
 use Rattle.table.specs.Sizes.{max_number, max_fields}
-use Rattle.table.specs.Text.{comma, onto, fields, all_digits, value_from, value, is_number, all_numbers, is_row, readings, row_text, comma_at, number_text, params_text, params_from, params_of, lf, lf_from}
-use Rattle.table.specs.declared.RowText.{RowText}
-use Rattle.table.specs.declared.ParamsText.{ParamsText}
-use Rattle.table.specs.declared.LineEnd.{LineEnd}
+use Rattle.table.specs.Text.{comma, onto, fields, all_digits, value_from, value, is_number, all_numbers, is_row, readings, row_text, comma_at, params_from, params_of, lf, lf_from}
 use Rattle.table.specs.declared.RowsSoFar.{RowsSoFar}
 use Rattle.table.specs.declared.Verdict.{Verdict}
 use Rattle.table.specs.Table.{cr, ends_in_cr, opened, is_next, counted}
@@ -277,44 +284,45 @@ module _ (line : List ℕ) (row₀ row : List Float) (v d n i : ℕ) (s : Read l
 
 -- the answers to a bad line and to a row
 pub bad-answer : (line : List ℕ) (row₀ row : List Float) → is_row line ≡ false → drop max_fields row ≡ drop max_fields row₀
-    → (RowText.Bad ≡ row_text line) × ((is_row line ≡ true → row ≡ readings line ++ drop (length (fields line)) row₀) × (drop max_fields row ≡ drop max_fields row₀))
+    → (None ≡ row_text line) × ((is_row line ≡ true → row ≡ readings line ++ drop (length (fields line)) row₀) × (drop max_fields row ≡ drop max_fields row₀))
 bad-answer line row₀ row b r = (rw b, ((λ h. clash (is_row line) h b), r))
 
 pub row-answer : (line : List ℕ) (row₀ row : List Float) (n : ℕ)
     → (is_row line ≡ true) × (length (fields line) ≡ n + 1) × (row ≡ readings line ++ drop (length (fields line)) row₀) → drop max_fields row ≡ drop max_fields row₀
-    → (RowText.Row (n + 1) ≡ row_text line) × ((is_row line ≡ true → row ≡ readings line ++ drop (length (fields line)) row₀) × (drop max_fields row ≡ drop max_fields row₀))
+    → (Some (n + 1) ≡ row_text line) × ((is_row line ≡ true → row ≡ readings line ++ drop (length (fields line)) row₀) × (drop max_fields row ≡ drop max_fields row₀))
 row-answer line row₀ row n t r = (rw (t.0, t.1), ((λ h. t.2), r))
 
 -- ---- the first comma and the first LF of a list
-comma-ends : (l : List ℕ) (i : ℕ) → length l ≤ i → comma_at (drop i l) ≡ 0
+pub comma_or_length : (l : List ℕ) → unwrap_or (position (λ b. eqb b comma) l) (length l) ≡ comma_at l
 unfolding comma_at
-comma-ends l i h = rw (drop_of_length-le l h)
+comma_or_length l =
+    let e = is_position_or_len comma_at (λ b. eqb b comma) refl (λ x xs. ap (λ (z : ℕ). cond (eqb x comma) 0 z) (sym (one-add (comma_at xs)))) l in
+    let m = prefix_len-le-length (λ b. not (eqb b comma)) l in
+    rw e (go (ltb (position_or_len (λ b. eqb b comma) l) (length l)) refl m)
+  where
+    go : (t : Bool) → ltb (position_or_len (λ b. eqb b comma) l) (length l) ≡ t → position_or_len (λ b. eqb b comma) l ≤ length l
+        → unwrap_or (cond t (Some (position_or_len (λ b. eqb b comma) l)) None) (length l) ≡ position_or_len (λ b. eqb b comma) l
+    go true e m = refl
+    go false e m = let k = ltb-false (position_or_len (λ b. eqb b comma) l) (length l) e in omega arith
 
-module _ (l : List ℕ) (i : ℕ) (s : comma_at l ≡ i + comma_at (drop i l)) where
-  pub comma-here : i < length l → get_or l i 0 ≡ comma → i ≡ comma_at l
-  unfolding comma_at
-  comma-here h e = let k : comma_at (drop i l) ≡ 0 = rw (drop-cons l i 0 h, eq-eqb (get_or l i 0) comma e) in omega arith
+from_place : (k j : ℕ) (l : List ℕ) → lf_from (k + j) l ≡ option_map (λ i. k + i) (position_from (λ b. eqb b lf) j l)
+unfolding lf_from
+from_place k j [] = refl
+from_place k j (b ∷ bs) = go (eqb b lf) (rw (← add_assoc k j 1) at (from_place k (j + 1) bs))
+  where
+    go : (t : Bool) → lf_from (k + j + 1) bs ≡ option_map (λ i. k + i) (position_from (λ b. eqb b lf) (j + 1) bs)
+        → cond t (Some (k + j)) (lf_from (k + j + 1) bs) ≡ option_map (λ i. k + i) (cond t (Some j) (position_from (λ b. eqb b lf) (j + 1) bs))
+    go true h = refl
+    go false h = h
 
-  pub comma-next : i < length l → (get_or l i 0 ≡ comma → ⊥) → comma_at l ≡ i + 1 + comma_at (drop (i + 1) l)
-  unfolding comma_at
-  comma-next h e =
-      let k : comma_at (drop i l) ≡ suc (comma_at (drop (i + 1) l)) = rw (drop-cons l i 0 h, ne_eqb (get_or l i 0) comma e, add-one) in omega arith
+pub lf-place : (k : ℕ) (l : List ℕ) → lf_from k l ≡ option_map (λ i. k + i) (position (λ b. eqb b lf) l)
+lf-place k l =
+    ap (λ (z : ℕ). lf_from z l) (sym (add-zero k)) ∙ from_place k 0 l
+    ∙ ap (option_map (λ i. k + i)) (sym (position_from-zero (λ b. eqb b lf) l))
 
-  pub comma-none : i ≡ length l → i ≡ comma_at l
-  comma-none h = let k : comma_at (drop i l) ≡ 0 = comma-ends l i (omega arith) in omega arith
-
-module _ (l : List ℕ) (i : ℕ) where
-  pub lf-here : i < length l → get_or l i 0 ≡ lf → lf_from i (drop i l) ≡ LineEnd.At i
-  unfolding lf_from
-  lf-here h e = rw (drop-cons l i 0 h, eq-eqb (get_or l i 0) lf e)
-
-  pub lf-next : i < length l → (get_or l i 0 ≡ lf → ⊥) → lf_from i (drop i l) ≡ lf_from (i + 1) (drop (i + 1) l)
-  unfolding lf_from
-  lf-next h e = rw (drop-cons l i 0 h, ne_eqb (get_or l i 0) lf e, add-one)
-
-  pub lf-none : length l ≤ i → lf_from i (drop i l) ≡ LineEnd.Missing
-  unfolding lf_from
-  lf-none h = rw (drop_of_length-le l h)
+pub lf-none : (l : List ℕ) (i : ℕ) → length l ≤ i → lf_from i (drop i l) ≡ None
+unfolding lf_from
+lf-none l i h = rw (drop_of_length-le l h)
 
 -- ---- a field's number, from its middle on
 abbrev pub Counted : ℕ → List ℕ → ℕ → List ℕ → Type 0
@@ -373,36 +381,28 @@ split-none (b ∷ bs) h = go (eqb b comma) h (split-none bs)
 pub part : {A : Type 0} (l : List A) (a : ℕ) → take (length l - a) (drop a l) ≡ drop a l
 part l a = take_all (length l - a) (drop a l) (simp length-drop (omega arith))
 
--- a line with a first comma at i and the part r behind it
-module _ (l r : List ℕ) (i : ℕ) (e : i ≡ comma_at l) where
-  pub params-one : length l ≤ i → ParamsText.Bad ≡ params_of l
-  unfolding params_of params_from
-  params-one h = rw (split-none l (omega arith))
+-- the fields of a line that is cut at a comma, and of one that has none
+pub cut_fields : (l : List ℕ) (i : ℕ) → Some i ≡ position (λ b. eqb b comma) l → fields l ≡ take i l ∷ fields (take (length l - (i + 1)) (drop (i + 1) l))
+cut_fields l i e =
+    let h : comma_at l ≡ i = sym (comma_or_length l) ∙ ap (λ (o : Option ℕ). unwrap_or o (length l)) (sym e) in
+    let k : i < length l = (position-Some (λ b. eqb b comma) l i 0 (sym e)).0 in
+    rw (part l (i + 1), add-one, ← h) (split-comma l (omega arith))
 
-  head : i < length l → r ≡ take (length l - (i + 1)) (drop (i + 1) l) → fields l ≡ take i l ∷ fields r
-  head h p = rw (p, part l (i + 1), add-one, e) (split-comma l (omega arith))
+pub whole_field : (l : List ℕ) → None ≡ position (λ b. eqb b comma) l → fields l ≡ l ∷ []
+whole_field l e =
+    let h : comma_at l ≡ length l = sym (comma_or_length l) ∙ ap (λ (o : Option ℕ). unwrap_or o (length l)) (sym e) in
+    split-none l (omega arith)
 
-  -- and of that part, likewise
-  module _ (h : i < length l) (p : r ≡ take (length l - (i + 1)) (drop (i + 1) l)) (q : List ℕ) (j : ℕ) (f : j ≡ comma_at r) where
-    pub params-two : length r ≤ j → ParamsText.Bad ≡ params_of l
-    unfolding params_of params_from
-    params-two k = rw (head h p, split-none r (omega arith))
-
-    heads : j < length r → q ≡ take (length r - (j + 1)) (drop (j + 1) r) → fields l ≡ take i l ∷ take j r ∷ fields q
-    heads k g = rw (head h p, g, part r (j + 1), add-one, f) (ap (λ (z : List (List ℕ)). take i l ∷ z) (split-comma r (omega arith)))
-
-    module _ (k : j < length r) (g : q ≡ take (length r - (j + 1)) (drop (j + 1) r)) (m : ℕ) (o : m ≡ comma_at q) where
-      pub params-three : length q ≤ m → params_text (number_text max_number (take i l)) (number_text max_count (take j r)) (number_text max_count q) ≡ params_of l
-      unfolding params_of params_from
-      params-three n = rw (heads k g, split-none q (omega arith))
-
-      pub params_more : m < length q → ParamsText.Bad ≡ params_of l
-      unfolding params_of params_from
-      params_more n = rw (heads k g, split-comma q (omega arith)) (four (fields (drop (suc (comma_at q)) q)) (some-field (drop (suc (comma_at q)) q)))
-        where
-          four : (fs : List (List ℕ)) → 0 < length fs → ParamsText.Bad ≡ params_from (take i l ∷ take j r ∷ take (comma_at q) q ∷ fs)
-          four [] n = absurd (omega arith)
-          four (f ∷ fs) n = refl
+-- a line that is cut three times
+pub four-fields : {A : Type 0} (l a b r w : List ℕ) (o : Option A) (f g : A → List ℕ) → fields l ≡ a ∷ fields r → fields r ≡ b ∷ fields w
+    → MatchOption o (fields w ≡ w ∷ []) (λ p. fields w ≡ f p ∷ fields (g p)) → is_some o ≡ true → None ≡ params_of l
+unfolding params_of params_from
+four-fields l a b r w None f g e h m s = clash false s refl
+four-fields l a b r w (Some p) f g e h m s = rw (e, h, m) (go (fields (g p)) (some-field (g p)))
+  where
+    go : (fs : List (List ℕ)) → 0 < length fs → None ≡ params_from (a ∷ b ∷ f p ∷ fs)
+    go [] n = absurd (omega arith)
+    go (x ∷ fs) n = refl
 
 -- ---- the last byte
 pub cr-none : (l : List ℕ) → length l ≡ 0 → false ≡ ends_in_cr l
@@ -417,25 +417,25 @@ cr-some (b ∷ []) h = refl
 cr-some (b ∷ c ∷ l) h = rw (sub-one (suc (suc (length l)))) (ap (λ (k : ℕ). eqb (get_or (c ∷ l) k 0) cr) (sym (sub-one (suc (length l)))) ∙ cr-some (c ∷ l) (omega arith))
 
 -- ---- verdicts
-pub next-room : (s : RowsSoFar) (n : ℕ) → is_next s n ≡ true → s.rows ≤ last_row
+pub next_room : (s : RowsSoFar) (n : ℕ) → is_next s n ≡ true → s.rows ≤ last_row
 unfolding is_next
-next-room s n e = leb-true s.rows last_row (both (eqb s.count 0 || eqb n s.count) e).1
+next_room s n e = leb-true s.rows last_row (both (eqb s.count 0 || eqb n s.count) e).1
 
-pub row-counted : (s t : RowsSoFar) (x : RowText) → counted s x ≡ Verdict.Row t → x ≡ RowText.Row t.count
-row-counted s t RowText.Bad e = let z : ◌≡◌ {A = ℕ} 0 1 = cc in absurd (omega arith)
-row-counted s t (RowText.Row n) e = go (is_next s n) e
+pub row-counted : (s t : RowsSoFar) (x : Option ℕ) → counted s x ≡ Verdict.Row t → x ≡ Some t.count
+row-counted s t None e = let z : ◌≡◌ {A = ℕ} 0 1 = cc in absurd (omega arith)
+row-counted s t (Some n) e = go (is_next s n) e
   where
-    go : (b : Bool) → cond b (Verdict.Row (record { params = s.params; count = n; rows = s.rows + 1 })) Verdict.Refused ≡ Verdict.Row t → RowText.Row n ≡ RowText.Row t.count
-    go true e = let k : record { params = s.params; count = n; rows = s.rows + 1 } ≡ t = cc in ap (λ (z : RowsSoFar). RowText.Row z.count) k
+    go : (b : Bool) → cond b (Verdict.Row (record { params = s.params; count = n; rows = s.rows + 1 })) Verdict.Refused ≡ Verdict.Row t → Some n ≡ Some t.count
+    go true e = let k : record { params = s.params; count = n; rows = s.rows + 1 } ≡ t = cc in ap (λ (z : RowsSoFar). Some z.count) k
     go false e = let z : ◌≡◌ {A = ℕ} 0 1 = cc in absurd (omega arith)
 
-pub row-text : (line : List ℕ) (n : ℕ) → row_text line ≡ RowText.Row n → (is_row line ≡ true) × (length (fields line) ≡ n)
+pub row-text : (line : List ℕ) (n : ℕ) → row_text line ≡ Some n → (is_row line ≡ true) × (length (fields line) ≡ n)
 row-text line n e = go (is_row line) e
   where
-    go : (b : Bool) → cond b (RowText.Row (length (fields line))) RowText.Bad ≡ RowText.Row n → (b ≡ true) × (length (fields line) ≡ n)
+    go : (b : Bool) → cond b (Some (length (fields line))) None ≡ Some n → (b ≡ true) × (length (fields line) ≡ n)
     go true e = (refl, cc)
     go false e = let z : ◌≡◌ {A = ℕ} 0 1 = cc in absurd (omega arith)
 
-pub never-row : (x : ParamsText) (t : RowsSoFar) → opened x ≡ Verdict.Row t → ⊥
-never-row (ParamsText.Params p) t e = let z : ◌≡◌ {A = ℕ} 0 1 = cc in omega arith
-never-row ParamsText.Bad t e = let z : ◌≡◌ {A = ℕ} 0 1 = cc in omega arith
+pub never-row : (x : Option ImDetectParams) (t : RowsSoFar) → opened x ≡ Verdict.Row t → ⊥
+never-row (Some p) t e = let z : ◌≡◌ {A = ℕ} 0 1 = cc in omega arith
+never-row None t e = let z : ◌≡◌ {A = ℕ} 0 1 = cc in omega arith

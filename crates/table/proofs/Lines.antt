@@ -1,5 +1,6 @@
 -- What a reader that looks for LF after LF may rely on: where a line ends, which text is the last line, and that a CR or an LF
 -- that stands alone, as every byte that is no digit and no comma, makes its line bad.
+use Rattle.std.proofs.Common.{Some, None}
 use mathlib.Core.Path.{◌≡◌, refl, sym, ◌∙◌, ap}
 use mathlib.Core.Bool.{Bool, true, false, cond, not, ◌&&◌}
 use mathlib.Core.List.{List, [], ◌∷◌, ◌++◌, append_assoc}
@@ -14,9 +15,6 @@ use lib.Seq.{take_at, take-take, drop-append-add}
 use Rattle.limits.specs.Limits.{max_count}
 use Rattle.refusal.proofs.Bools.{clash, and-false}
 use Rattle.table.specs.Sizes.{max_number, max_fields, max_line}
-use Rattle.table.specs.declared.LineEnd.{LineEnd}
-use Rattle.table.specs.declared.NumberText.{NumberText}
-use Rattle.table.specs.declared.ParamsText.{ParamsText}
 use Rattle.table.specs.declared.Progress.{Progress}
 use Rattle.table.specs.declared.Verdict.{Verdict}
 use Rattle.table.specs.Text.{comma, onto, fields, all_digits, value, is_number, all_numbers, is_row, params_text, params_from, params_of, lf, lf_from, next_line}
@@ -83,24 +81,24 @@ lone-lf (b ∷ c ∷ x) rest h e = go (eqb b cr) (eqb b lf) (eqb c lf) h (lone-l
     go false false false h r = let t = r h e in (t.0, t.1, ap (onto b) t.2)
 
 -- ---- the place that `next_line` gives
-pub lf-at : (j : ℕ) (l : List ℕ) (k : ℕ) → lf_from j l ≡ LineEnd.At k
+pub lf-at : (j : ℕ) (l : List ℕ) (k : ℕ) → lf_from j l ≡ Some k
     → (x : List ℕ) × (rest : List ℕ) × (l ≡ x ++ (lf ∷ rest)) × (k ≡ j + length x) × (no_lf x ≡ true)
 unfolding lf_from no_lf
 lf-at j [] k h = let z : ◌≡◌ {A = ℕ} 0 1 = cc in absurd (omega arith)
 lf-at j (b ∷ bs) k h = go (eqb b lf) refl h (lf-at (j + 1) bs k)
   where
-    go : (e : Bool) → eqb b lf ≡ e → cond e (LineEnd.At j) (lf_from (j + 1) bs) ≡ LineEnd.At k
-        → (lf_from (j + 1) bs ≡ LineEnd.At k → (x : List ℕ) × (rest : List ℕ) × (bs ≡ x ++ (lf ∷ rest)) × (k ≡ j + 1 + length x) × (no_lf x ≡ true))
+    go : (e : Bool) → eqb b lf ≡ e → cond e (Some j) (lf_from (j + 1) bs) ≡ Some k
+        → (lf_from (j + 1) bs ≡ Some k → (x : List ℕ) × (rest : List ℕ) × (bs ≡ x ++ (lf ∷ rest)) × (k ≡ j + 1 + length x) × (no_lf x ≡ true))
         → (x : List ℕ) × (rest : List ℕ) × (b ∷ bs ≡ x ++ (lf ∷ rest)) × (k ≡ j + length x) × (no_lf x ≡ true)
     go true e h r = let i : k ≡ j = cc in ([], bs, ap (λ (z : ℕ). z ∷ bs) (eqb-true b lf e), omega arith, refl)
     go false e h r = let t = r h in (b ∷ t.0, t.1, ap (λ (z : List ℕ). b ∷ z) t.2, omega (arith, t.3), rw e t.4)
 
-pub lf-missing : (j : ℕ) (l : List ℕ) → lf_from j l ≡ LineEnd.Missing → no_lf l ≡ true
+pub lf-missing : (j : ℕ) (l : List ℕ) → lf_from j l ≡ None → no_lf l ≡ true
 unfolding lf_from no_lf
 lf-missing j [] h = refl
 lf-missing j (b ∷ bs) h = go (eqb b lf) h (lf-missing (j + 1) bs)
   where
-    go : (e : Bool) → cond e (LineEnd.At j) (lf_from (j + 1) bs) ≡ LineEnd.Missing → (lf_from (j + 1) bs ≡ LineEnd.Missing → no_lf bs ≡ true) → (not e && no_lf bs) ≡ true
+    go : (e : Bool) → cond e (Some j) (lf_from (j + 1) bs) ≡ None → (lf_from (j + 1) bs ≡ None → no_lf bs ≡ true) → (not e && no_lf bs) ≡ true
     go true h r = let z : ◌≡◌ {A = ℕ} 0 1 = cc in absurd (omega arith)
     go false h r = r h
 
@@ -177,7 +175,7 @@ wider f h = go (leb 1 (length f) && leb (length f) 8 && all_digits f) (leb (valu
     go true false e h = clash false h refl
     go false b e h = h
 
-no-params : (fs : List (List ℕ)) → all_numbers max_number fs ≡ false → params_from fs ≡ ParamsText.Bad
+no-params : (fs : List (List ℕ)) → all_numbers max_number fs ≡ false → params_from fs ≡ None
 unfolding params_from all_numbers
 no-params [] h = refl
 no-params (a ∷ []) h = refl
@@ -185,7 +183,7 @@ no-params (a ∷ b ∷ []) h = refl
 no-params (a ∷ b ∷ c ∷ []) h = go (is_number max_number a) refl (is_number max_count b) refl (is_number max_count c) refl
   where
     go : (x : Bool) → is_number max_number a ≡ x → (y : Bool) → is_number max_count b ≡ y → (z : Bool) → is_number max_count c ≡ z
-        → params_text (cond x (NumberText.Number (value a)) NumberText.Bad) (cond y (NumberText.Number (value b)) NumberText.Bad) (cond z (NumberText.Number (value c)) NumberText.Bad) ≡ ParamsText.Bad
+        → params_text (cond x (Some (value a)) None) (cond y (Some (value b)) None) (cond z (Some (value c)) None) ≡ None
     go false e y f z g = refl
     go true e false f z g = refl
     go true e true f false g = refl
@@ -243,14 +241,14 @@ total-most (f ∷ fs) h = go (leb 1 (length f)) (leb (length f) 8) refl (all_dig
     go true true e true false h r = clash false h refl
     go true true e true true h r = let k : length f ≤ 8 = leb-true (length f) 8 e in let m : total fs ≤ 9 * length fs = r h in omega arith
 
-long-params : (fs : List (List ℕ)) → max_line < total fs → params_from fs ≡ ParamsText.Bad
+long-params : (fs : List (List ℕ)) → max_line < total fs → params_from fs ≡ None
 unfolding params_from
 long-params [] h = refl
 long-params (a ∷ []) h = refl
 long-params (a ∷ b ∷ []) h = refl
 long-params (a ∷ b ∷ c ∷ []) h = go (all_numbers max_number (a ∷ b ∷ c ∷ [])) refl
   where
-    go : (e : Bool) → all_numbers max_number (a ∷ b ∷ c ∷ []) ≡ e → params_from (a ∷ b ∷ c ∷ []) ≡ ParamsText.Bad
+    go : (e : Bool) → all_numbers max_number (a ∷ b ∷ c ∷ []) ≡ e → params_from (a ∷ b ∷ c ∷ []) ≡ None
     go true e = let m : total (a ∷ b ∷ c ∷ []) ≤ 9 * 3 = total-most (a ∷ b ∷ c ∷ []) e in absurd (omega arith)
     go false e = no-params (a ∷ b ∷ c ∷ []) e
 long-params (a ∷ b ∷ c ∷ d ∷ fs) h = refl
@@ -270,7 +268,7 @@ long-refused (Progress.Rows s) line h = let t = total-line line in rw (long-row 
 
 -- ---- the first line of a text, by its first LF
 
-front : (bs : List ℕ) (k : ℕ) (h : next_line bs 0 ≡ LineEnd.At k) → take k bs ≡ (lf-at 0 bs k h).0
+front : (bs : List ℕ) (k : ℕ) (h : next_line bs 0 ≡ Some k) → take k bs ≡ (lf-at 0 bs k h).0
 front bs k h =
     let t = lf-at 0 bs k h in
     ap (take k) t.2 ∙ take_at t.0 (lf ∷ t.1) k (sym (t.3 ∙ zero-add (length t.0)))

@@ -1,10 +1,9 @@
 -- Worked cases, each by computation; they need not be read to know what is promised.
+use Rattle.std.specs.Prelude.{Some, None}
 use Rattle.std.specs.Prelude.{◌≡◌, refl, List, [], ◌∷◌, ◌++◌, map, ℕ, Float}
 use Rattle.std.specs.Float.Ieee.{to_bits, of_bits, of_int}
 use Rattle.record.specs.Record.{word, peak_from}
 use Rattle.params.specs.declared.ImDetectParams.{ImDetectParams}
-use Rattle.table.specs.declared.RowText.{RowText}
-use Rattle.table.specs.declared.ParamsText.{ParamsText}
 use Rattle.table.specs.declared.Progress.{Progress}
 use Rattle.table.specs.declared.Verdict.{Verdict}
 use Rattle.numeric.specs.Arith.{𝟏}
@@ -13,23 +12,23 @@ use Rattle.table.specs.Print.{digits_of, decimal, hex_digit, ascii, heading, ref
 use Rattle.table.specs.Table.{lines, is_next, verdict, printed_from, table}
 
 -- ---- lines that are read
-params-line : params_of (ascii "1,2,1") ≡ ParamsText.Params (record { min_prom = 𝟏; min_distance_scans = 2; min_width_scans = 1 })
+params-line : params_of (ascii "1,2,1") ≡ Some (record { min_prom = 𝟏; min_distance_scans = 2; min_width_scans = 1 })
 unfolding params_of params_from fields is_number all_digits value_from of_int of_bits
 params-line = refl
 
-params-two : params_of (ascii "1,2") ≡ ParamsText.Bad
+params-two : params_of (ascii "1,2") ≡ None
 unfolding params_of params_from fields
 params-two = refl
 
-params-four : params_of (ascii "1,2,1,1") ≡ ParamsText.Bad
+params-four : params_of (ascii "1,2,1,1") ≡ None
 unfolding params_of params_from fields
 params-four = refl
 
-params-far : params_of (ascii "1,65536,1") ≡ ParamsText.Bad
+params-far : params_of (ascii "1,65536,1") ≡ None
 unfolding params_of params_from fields is_number all_digits value_from
 params-far = refl
 
-row_line : row_text (ascii "0,4,0,8,0") ≡ RowText.Row 5
+row_line : row_text (ascii "0,4,0,8,0") ≡ Some 5
 unfolding is_row fields all_numbers is_number all_digits value_from
 row_line = refl
 
@@ -37,7 +36,7 @@ row-readings : map word (readings (ascii "0,4,0,8,0")) ≡ 0 ∷ 0x4080_0000 ∷
 unfolding readings fields value_from of_int to_bits
 row-readings = refl
 
-leading-zero : row_text (ascii "01") ≡ RowText.Row 1
+leading-zero : row_text (ascii "01") ≡ Some 1
 unfolding is_row fields all_numbers is_number all_digits value_from
 leading-zero = refl
 
@@ -45,7 +44,7 @@ leading-zero-reading : map word (readings (ascii "01")) ≡ 0x3f80_0000 ∷ []
 unfolding readings fields value_from of_int to_bits
 leading-zero-reading = refl
 
-highest-row : row_text (ascii "16777215") ≡ RowText.Row 1
+highest-row : row_text (ascii "16777215") ≡ Some 1
 unfolding is_row fields all_numbers is_number all_digits value_from
 highest-row = refl
 
@@ -54,31 +53,31 @@ unfolding readings fields value_from of_int to_bits
 highest-reading = refl
 
 -- ---- lines that are refused
-empty-line : row_text [] ≡ RowText.Bad
+empty-line : row_text [] ≡ None
 unfolding is_row fields all_numbers is_number
 empty-line = refl
 
-empty-field : row_text (ascii "1,,2") ≡ RowText.Bad
+empty-field : row_text (ascii "1,,2") ≡ None
 unfolding is_row fields all_numbers is_number all_digits value_from
 empty-field = refl
 
-blank : row_text (ascii " 1") ≡ RowText.Bad
+blank : row_text (ascii " 1") ≡ None
 unfolding is_row fields all_numbers is_number all_digits value_from
 blank = refl
 
-sign : row_text (ascii "-1") ≡ RowText.Bad
+sign : row_text (ascii "-1") ≡ None
 unfolding is_row fields all_numbers is_number all_digits value_from
 sign = refl
 
-quoted : row_text (ascii "\"1\"") ≡ RowText.Bad
+quoted : row_text (ascii "\"1\"") ≡ None
 unfolding is_row fields all_numbers is_number all_digits value_from
 quoted = refl
 
-nine-digits : row_text (ascii "000000001") ≡ RowText.Bad
+nine-digits : row_text (ascii "000000001") ≡ None
 unfolding is_row fields all_numbers is_number all_digits value_from
 nine-digits = refl
 
-too-high : row_text (ascii "16777216") ≡ RowText.Bad
+too-high : row_text (ascii "16777216") ≡ None
 unfolding is_row fields all_numbers is_number all_digits value_from
 too-high = refl
 

@@ -1,8 +1,8 @@
 -- What a reader that looks for LF after LF may rely on: where a line ends, which text is the last line, and that a CR or an LF that stands
 -- alone, as every byte that is no digit and no comma, makes its line bad.
+use Rattle.std.specs.Prelude.{Some, None}
 use Rattle.std.specs.Prelude.{◌≡◌, Bool, true, false, not, ◌&&◌, List, [], ◌∷◌, ◌++◌, ℕ, ◌+◌, ◌-◌, ◌≤◌, ◌<◌, leb, eqb, length, take, drop}
 use Rattle.table.specs.Sizes.{max_line}
-use Rattle.table.specs.declared.LineEnd.{LineEnd}
 use Rattle.table.specs.declared.Progress.{Progress}
 use Rattle.table.specs.declared.Verdict.{Verdict}
 use Rattle.table.specs.Text.{comma, lf, next_line}
@@ -18,18 +18,18 @@ no_lf (b ∷ bs) = not (eqb b lf) && no_lf bs
 -- it stands in front of CR LF: `first-line` in proofs/Lines.antt
 abbrev pub FirstLine : Type 0
 FirstLine =
-    (bs : List ℕ) (k : ℕ) → next_line bs 0 ≡ LineEnd.At k → ends_in_cr (take k bs) ≡ true
+    (bs : List ℕ) (k : ℕ) → next_line bs 0 ≡ Some k → ends_in_cr (take k bs) ≡ true
     → lines bs ≡ take (k - 1) bs ∷ lines (drop (k + 1) bs)
 
 -- or is refused, whatever has been accepted before: `first-line-bad`
 abbrev pub FirstLineBad : Type 0
 FirstLineBad =
-    (bs : List ℕ) (k : ℕ) → next_line bs 0 ≡ LineEnd.At k → ends_in_cr (take k bs) ≡ false
+    (bs : List ℕ) (k : ℕ) → next_line bs 0 ≡ Some k → ends_in_cr (take k bs) ≡ false
     → (line : List ℕ) × (more : List (List ℕ)) × (lines bs ≡ line ∷ more) × ((s : Progress) → verdict s line ≡ Verdict.Refused)
 
 -- with no LF, the whole text is one line: `only-line`
 abbrev pub OnlyLine : Type 0
-OnlyLine = (bs : List ℕ) → next_line bs 0 ≡ LineEnd.Missing → 0 < length bs → lines bs ≡ bs ∷ []
+OnlyLine = (bs : List ℕ) → next_line bs 0 ≡ None → 0 < length bs → lines bs ≡ bs ∷ []
 
 -- ---- lines that are refused, as the first line and as any other
 

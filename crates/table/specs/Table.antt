@@ -1,9 +1,8 @@
 -- The whole text: how bytes split into lines, what each line is answered with, and what is printed.
+use Rattle.std.specs.Prelude.{Option, Some, None}
 use Rattle.std.specs.Prelude.{Bool, false, cond, ◌&&◌, ◌||◌, List, [], ◌∷◌, ◌++◌, ℕ, ◌+◌, ◌-◌, leb, eqb, Float}
 use Rattle.limits.specs.Limits.{last_row}
 use Rattle.params.specs.declared.ImDetectParams.{ImDetectParams}
-use Rattle.table.specs.declared.RowText.{RowText}
-use Rattle.table.specs.declared.ParamsText.{ParamsText}
 use Rattle.table.specs.declared.RowsSoFar.{RowsSoFar}
 use Rattle.table.specs.declared.Progress.{Progress}
 use Rattle.table.specs.declared.Verdict.{Verdict}
@@ -31,18 +30,18 @@ ends_in_cr (b ∷ c ∷ bs) = ends_in_cr (c ∷ bs)
 -- ---- verdicts
 
 -- the first line: the parameters
-abbrev pub opened : ParamsText → Verdict
-opened (ParamsText.Params p) = Verdict.Heading (record { params = p; count = 0; rows = 0 })
-opened ParamsText.Bad = Verdict.Refused
+abbrev pub opened : Option ImDetectParams → Verdict
+opened (Some p) = Verdict.Heading (record { params = p; count = 0; rows = 0 })
+opened None = Verdict.Refused
 
 -- as many fields as the first row has, which is itself of any count; and a place among 4,194,304 rows
 unfoldable pub is_next : RowsSoFar → ℕ → Bool
 is_next s n = (eqb s.count 0 || eqb n s.count) && leb s.rows last_row
 
 -- each further line: a row
-abbrev pub counted : RowsSoFar → RowText → Verdict
-counted s (RowText.Row n) = cond (is_next s n) (Verdict.Row (record { params = s.params; count = n; rows = s.rows + 1 })) Verdict.Refused
-counted s RowText.Bad = Verdict.Refused
+abbrev pub counted : RowsSoFar → Option ℕ → Verdict
+counted s (Some n) = cond (is_next s n) (Verdict.Row (record { params = s.params; count = n; rows = s.rows + 1 })) Verdict.Refused
+counted s None = Verdict.Refused
 
 unfoldable pub verdict : Progress → List ℕ → Verdict
 verdict Progress.Start line = opened (params_of line)

@@ -1,12 +1,10 @@
 -- The text that the printed table is made of and made from: RFC 4180 lines of unquoted whole numbers, as bytes.
+use Rattle.std.specs.Prelude.{Option, Some, None}
+use Rattle.params.specs.declared.ImDetectParams.{ImDetectParams}
 use Rattle.std.specs.Prelude.{Bool, true, cond, ◌&&◌, List, [], ◌∷◌, map, ℕ, suc, ◌+◌, ◌-◌, ◌*◌, leb, eqb, length, drop, Float}
 use Rattle.limits.specs.Limits.{max_count}
 use Rattle.numeric.specs.Arith.{index_f}
 use Rattle.table.specs.Sizes.{max_number, max_fields}
-use Rattle.table.specs.declared.NumberText.{NumberText}
-use Rattle.table.specs.declared.RowText.{RowText}
-use Rattle.table.specs.declared.ParamsText.{ParamsText}
-use Rattle.table.specs.declared.LineEnd.{LineEnd}
 
 -- ---- a line's fields
 
@@ -47,8 +45,8 @@ unfoldable pub is_number : ℕ → List ℕ → Bool
 is_number limit f = leb 1 (length f) && leb (length f) 8 && all_digits f && leb (value f) limit
 
 -- what a field is as a number to a limit
-abbrev pub number_text : ℕ → List ℕ → NumberText
-number_text limit f = cond (is_number limit f) (NumberText.Number (value f)) NumberText.Bad
+abbrev pub number_text : ℕ → List ℕ → Option ℕ
+number_text limit f = cond (is_number limit f) (Some (value f)) None
 
 unfoldable pub all_numbers : ℕ → List (List ℕ) → Bool
 all_numbers limit [] = true
@@ -65,28 +63,28 @@ unfoldable pub readings : List ℕ → List Float
 readings line = map (λ f. index_f (value f)) (fields line)
 
 -- what a line is as a row: the count of its fields, or bad
-abbrev pub row_text : List ℕ → RowText
-row_text line = cond (is_row line) (RowText.Row (length (fields line))) RowText.Bad
+abbrev pub row_text : List ℕ → Option ℕ
+row_text line = cond (is_row line) (Some (length (fields line))) None
 
 -- ---- the parameters
 
 -- three numbers: the floor, the least distance and the least width
-abbrev pub params_text : NumberText → NumberText → NumberText → ParamsText
-params_text (NumberText.Number a) (NumberText.Number b) (NumberText.Number c) =
-    ParamsText.Params (record { min_prom = index_f a; min_distance_scans = b; min_width_scans = c })
-params_text (NumberText.Number a) (NumberText.Number b) NumberText.Bad = ParamsText.Bad
-params_text (NumberText.Number a) NumberText.Bad c = ParamsText.Bad
-params_text NumberText.Bad b c = ParamsText.Bad
+abbrev pub params_text : Option ℕ → Option ℕ → Option ℕ → Option ImDetectParams
+params_text (Some a) (Some b) (Some c) =
+    Some (record { min_prom = index_f a; min_distance_scans = b; min_width_scans = c })
+params_text (Some a) (Some b) None = None
+params_text (Some a) None c = None
+params_text None b c = None
 
 -- exactly three fields, the floor to 16,777,215, the least distance and the least width to 65,535
-unfoldable pub params_from : List (List ℕ) → ParamsText
-params_from [] = ParamsText.Bad
-params_from (a ∷ []) = ParamsText.Bad
-params_from (a ∷ b ∷ []) = ParamsText.Bad
+unfoldable pub params_from : List (List ℕ) → Option ImDetectParams
+params_from [] = None
+params_from (a ∷ []) = None
+params_from (a ∷ b ∷ []) = None
 params_from (a ∷ b ∷ c ∷ []) = params_text (number_text max_number a) (number_text max_count b) (number_text max_count c)
-params_from (a ∷ b ∷ c ∷ d ∷ fs) = ParamsText.Bad
+params_from (a ∷ b ∷ c ∷ d ∷ fs) = None
 
-unfoldable pub params_of : List ℕ → ParamsText
+unfoldable pub params_of : List ℕ → Option ImDetectParams
 params_of line = params_from (fields line)
 
 -- ---- where a line ends
@@ -95,10 +93,10 @@ abbrev pub lf : ℕ
 lf = 10
 
 -- the place of the first LF in a list whose first byte stands at place k
-unfoldable pub lf_from : ℕ → List ℕ → LineEnd
-lf_from k [] = LineEnd.Missing
-lf_from k (b ∷ bs) = cond (eqb b lf) (LineEnd.At k) (lf_from (k + 1) bs)
+unfoldable pub lf_from : ℕ → List ℕ → Option ℕ
+lf_from k [] = None
+lf_from k (b ∷ bs) = cond (eqb b lf) (Some k) (lf_from (k + 1) bs)
 
 -- the place of the first LF at a place or after it
-abbrev pub next_line : List ℕ → ℕ → LineEnd
+abbrev pub next_line : List ℕ → ℕ → Option ℕ
 next_line bytes from = lf_from from (drop from bytes)

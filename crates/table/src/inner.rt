@@ -8,7 +8,7 @@ ghost use Rattle.table.specs.Table.{verdict};
 ghost use Rattle.record.specs.Record.{word};
 ghost use Rattle.table.specs.Print.{decimal, hex_digit, hex8, heading, refusal, followed, ended, places_of, floats_of, peak_line, put_at};
 
-use super::{Progress, RowText, RowsSoFar, Verdict};
+use super::{Progress, RowsSoFar, Verdict};
 use record::ImPeak1D;
 
 // Whether the field that has been read may end: a digit at least, a number to 16,777,215, and a place in the row.
@@ -22,12 +22,12 @@ fn may_end(value: u32, digits: u32, count: usize) -> bool
 fn may_go_on(digits: u32, b: u8) -> bool
     ensures { result ≡ (leb 48 b && leb b 57 && ltb digits 8) }
 {
-    super::is_digit(b) & (digits < 8)
+    b.is_ascii_digit() & (digits < 8)
 }
 
 // The readings of a line, given without its CR LF, to the front of `row`. Where the line is no row, some of the first 4,096
 // places of `row` may have been written.
-pub fn parse_row(line: &[u8], row: &mut [f32]) -> RowText
+pub fn parse_row(line: &[u8], row: &mut [f32]) -> Option<usize>
     requires { max_fields ≤ length row.old }
     ensures text { result ≡ row_text line.now }
     ensures front { is_row line.now ≡ true → row.new ≡ readings line.now ++ drop (length (fields line.now)) row.old }
@@ -36,33 +36,28 @@ pub fn parse_row(line: &[u8], row: &mut [f32]) -> RowText
     let mut value = 0u32;
     let mut digits = 0u32;
     let mut count = 0usize;
-    let mut i = 0usize;
-    while i < line.len() {
-        let b = line[i];
-        if b == 44 {
-            if may_end(value, digits, count) {
-                row[count] = numeric::of_u32(value);
-                count += 1;
-                value = 0;
-                digits = 0;
-            } else {
-                return RowText::Bad;
+    for &b in line {
+        if b == b',' {
+            if !may_end(value, digits, count) {
+                return None;
             }
+            row[count] = numeric::of_u32(value);
+            count += 1;
+            value = 0;
+            digits = 0;
         } else {
-            if may_go_on(digits, b) {
-                value = super::with_digit(value, b);
-                digits += 1;
-            } else {
-                return RowText::Bad;
+            if !may_go_on(digits, b) {
+                return None;
             }
+            value = super::with_digit(value, b);
+            digits += 1;
         }
-        i += 1;
     }
-    if may_end(value, digits, count) {
-        row[count] = numeric::of_u32(value);
-        return RowText::Row(count + 1);
+    if !may_end(value, digits, count) {
+        return None;
     }
-    RowText::Bad
+    row[count] = numeric::of_u32(value);
+    Some(count + 1)
 }
 
 // The verdict on the next line, given without its CR LF. The readings of an accepted row stand at the front of `row`; after
@@ -87,12 +82,8 @@ fn put_text(out: &mut [u8], text: &[u8]) -> usize
     ensures value { result ≡ length text.now }
     ensures out_after { out.new ≡ text.now ++ drop (length text.now) out.old }
 {
-    let mut i = 0usize;
-    while i < text.len() {
-        out[i] = text[i];
-        i += 1;
-    }
-    i
+    out[..text.len()].copy_from_slice(text);
+    text.len()
 }
 
 // Writes the heading to the front of `out`.
@@ -116,18 +107,19 @@ pub fn put_refusal(out: &mut [u8]) -> usize
     put_text(out, b"refused,10\r\n")
 }
 
-// Writes a number, without leading zeros, at a place of `out`, and says where it ends.
+// Writes a number, without leading zeros, at a place of `out`, and says where it ends. The place is a number from call to call: a
+// struct that holds it with the `&mut` would say the same clauses of two fields.
 fn put_decimal(out: &mut [u8], at: usize, n: u32) -> usize
     requires { at + 10 ≤ length out.old }
     ensures value { result ≡ at + length (decimal n) }
     ensures out_after { out.new ≡ put_at out.old at (decimal n) }
 {
     if n < 10 {
-        out[at] = 48 + (n as u8);
+        out[at] = b'0' + n as u8;
         return at + 1;
     }
     let end = put_decimal(out, at, n / 10);
-    out[end] = 48 + ((n % 10) as u8);
+    out[end] = b'0' + (n % 10) as u8;
     end + 1
 }
 
@@ -138,7 +130,7 @@ fn put_number(out: &mut [u8], at: usize, n: u32) -> usize
     ensures out_after { out.new ≡ put_at out.old at (followed (decimal n)) }
 {
     let end = put_decimal(out, at, n);
-    out[end] = 44;
+    out[end] = b',';
     end + 1
 }
 
@@ -147,9 +139,9 @@ fn hex_digit(d: u32) -> u8
     ensures { result ≡ hex_digit d }
 {
     if d < 10 {
-        48 + (d as u8)
+        b'0' + d as u8
     } else {
-        87 + (d as u8)
+        b'a' - 10 + d as u8
     }
 }
 
@@ -185,7 +177,7 @@ fn put_float(out: &mut [u8], at: usize, x: f32) -> usize
     ensures out_after { out.new ≡ put_at out.old at (followed (hex8 (word x))) }
 {
     let end = put_word(out, at, numeric::word_of(x));
-    out[end] = 44;
+    out[end] = b',';
     end + 1
 }
 
@@ -196,8 +188,8 @@ fn put_last(out: &mut [u8], at: usize, x: f32) -> usize
     ensures out_after { out.new ≡ put_at out.old at (ended (hex8 (word x))) }
 {
     let end = put_word(out, at, numeric::word_of(x));
-    out[end] = 13;
-    out[end + 1] = 10;
+    out[end] = b'\r';
+    out[end + 1] = b'\n';
     end + 2
 }
 

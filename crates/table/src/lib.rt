@@ -3,8 +3,9 @@
 
 pub mod inner;
 
-ghost use Rattle.std.specs.Prelude.{◌≡◌, ◌&&◌, ◌≤◌, ◌<◌, ◌+◌, ◌-◌, ◌*◌, leb};
-ghost use Rattle.table.specs.Text.{comma_at, number_text, params_text, params_of, next_line};
+ghost use Rattle.std.specs.Prelude.{◌≡◌, ◌==◌, [], ◌∷◌, MatchOption, ◌≤◌, ◌<◌, ◌+◌, ◌-◌, ◌*◌};
+ghost use Rattle.std.specs.List.{position};
+ghost use Rattle.table.specs.Text.{comma_at, fields, number_text, params_of, next_line};
 ghost use Rattle.table.specs.Table.{ends_in_cr, opened, is_next, counted};
 
 use params::ImDetectParams;
@@ -18,7 +19,7 @@ pub const MAX_NUMBER: u32 = 16777215;
 pub const MAX_FIELDS: usize = 4096;
 
 // The bytes of the longest row, with its CR: as many fields of 8 digits, each with one byte behind it.
-pub const MAX_LINE: usize = 36864;
+pub const MAX_LINE: usize = MAX_FIELDS * (8 + 1);
 
 // The most bytes that the line of a peak has: five numbers of 10 digits and four words of 8, each with a comma, the last with
 // CR LF.
@@ -28,37 +29,9 @@ pub const LINE_BYTES: usize = 92;
 pub const PUT_ROOM: usize = 96;
 
 // The room that the text for any line that is read fits in: the lines of as many peaks as a row can have, and `PUT_ROOM`.
-pub const LINE_ROOM: usize = 188420;
+pub const LINE_ROOM: usize = (MAX_FIELDS - 1) / 2 * LINE_BYTES + PUT_ROOM;
 
 // ---- what lines are
-
-// What a line is as a row: the count of its numbers, or bad.
-#[derive(Clone, Copy)]
-pub enum RowText {
-    Row(usize),
-    Bad,
-}
-
-// What a line is as parameters.
-#[derive(Clone, Copy)]
-pub enum ParamsText {
-    Params(ImDetectParams),
-    Bad,
-}
-
-// What a field is as a number to a limit.
-#[derive(Clone, Copy)]
-pub enum NumberText {
-    Number(u32),
-    Bad,
-}
-
-// The place of an LF.
-#[derive(Clone, Copy)]
-pub enum LineEnd {
-    At(usize),
-    Missing,
-}
 
 // What has been accepted behind the heading: the parameters, the count of fields of each row (0 before the first row) and the
 // count of rows.
@@ -69,7 +42,7 @@ pub struct RowsSoFar {
     pub rows: u32,
 }
 
-// Before the first line, and after it.
+// Before the first line, and after it. No Option: it names states, and a `None` in its place would not say which.
 #[derive(Clone, Copy)]
 pub enum Progress {
     Start,
@@ -77,6 +50,7 @@ pub enum Progress {
 }
 
 // What a line is answered with: the heading, a row's peaks or a refusal; but for the refusal, with what has been accepted then.
+// No Result: of the two that accept each prints another text.
 #[derive(Clone, Copy)]
 pub enum Verdict {
     Heading(RowsSoFar),
@@ -84,167 +58,130 @@ pub enum Verdict {
     Refused,
 }
 
-// Whether a byte is a digit.
-fn is_digit(b: u8) -> bool
-    ensures { result ≡ (leb 48 b && leb b 57) }
-{
-    (48 <= b) & (b <= 57)
-}
-
 // The number that a digit continues.
 fn with_digit(value: u32, b: u8) -> u32
     requires { (value < 10000000) × (48 ≤ b) }
     ensures { result ≡ value * 10 + (b - 48) }
 {
-    value * 10 + ((b - 48) as u32)
+    value * 10 + (b - b'0') as u32
+}
+
+// The place of the first such byte.
+fn place_of(byte: u8, bytes: &[u8]) -> Option<usize>
+    ensures { result ≡ position (λ b. b == byte) bytes.now }
+{
+    bytes.iter().position(|b| *b == byte)
 }
 
 // The place of the first comma, or the length.
 pub fn comma_at(line: &[u8]) -> usize
     ensures { result ≡ comma_at line.now }
 {
-    let mut i = 0usize;
-    while i < line.len() {
-        if line[i] == 44 {
-            return i;
-        }
-        i += 1;
-    }
-    i
+    place_of(b',', line).unwrap_or(line.len())
 }
 
 // The number of a field of 1 to 8 digits, to a limit.
-pub fn number(field: &[u8], limit: u32) -> NumberText
+pub fn number(field: &[u8], limit: u32) -> Option<u32>
     ensures { result ≡ number_text limit field.now }
 {
-    if field.len() == 0 {
-        return NumberText::Bad;
-    }
-    if field.len() > 8 {
-        return NumberText::Bad;
+    if field.is_empty() || field.len() > 8 {
+        return None;
     }
     let mut value = 0u32;
-    let mut i = 0usize;
-    while i < field.len() {
-        let b = field[i];
-        if is_digit(b) {
-            value = with_digit(value, b);
-        } else {
-            return NumberText::Bad;
+    for &b in field {
+        if !b.is_ascii_digit() {
+            return None;
         }
-        i += 1;
+        value = with_digit(value, b);
     }
-    if value <= limit {
-        return NumberText::Number(value);
+    if value > limit {
+        return None;
     }
-    NumberText::Bad
+    Some(value)
 }
 
-fn params_of(floor: NumberText, distance: NumberText, width: NumberText) -> ParamsText
-    ensures { result ≡ params_text floor distance width }
+// The field in front of the first comma of a line, and what stands behind that.
+#[tactic(auto, using(crate::proofs::Laws::cut_fields, crate::proofs::Laws::whole_field))]
+fn cut(line: &[u8]) -> Option<(&[u8], &[u8])>
+    ensures { MatchOption result (fields line.now ≡ line.now ∷ []) (λ p. fields line.now ≡ p.0.now ∷ fields p.1.now) }
 {
-    match floor {
-        NumberText::Number(a) => match distance {
-            NumberText::Number(b) => match width {
-                NumberText::Number(c) => ParamsText::Params(ImDetectParams {
-                    min_prom: numeric::of_u32(a),
-                    min_distance_scans: b,
-                    min_width_scans: c,
-                }),
-                NumberText::Bad => ParamsText::Bad,
-            },
-            NumberText::Bad => ParamsText::Bad,
-        },
-        NumberText::Bad => ParamsText::Bad,
-    }
+    let i = place_of(b',', line)?;
+    Some((&line[..i], &line[i + 1..]))
 }
 
 // The parameters on a line, given without its CR LF.
-pub fn parse_params(line: &[u8]) -> ParamsText
+#[tactic(auto, unfolding(crate::specs::Text::params_of, crate::specs::Text::params_from))]
+pub fn parse_params(line: &[u8]) -> Option<ImDetectParams>
     ensures { result ≡ params_of line.now }
 {
-    let i = comma_at(line);
-    if i < line.len() {
-        let rest = &line[i + 1..];
-        let j = comma_at(rest);
-        if j < rest.len() {
-            let last = &rest[j + 1..];
-            let k = comma_at(last);
-            if k < last.len() {
-                return ParamsText::Bad;
-            }
-            return params_of(
-                number(&line[..i], MAX_NUMBER),
-                number(&rest[..j], limits::MAX_COUNT),
-                number(last, limits::MAX_COUNT),
-            );
-        }
+    let (floor, rest) = cut(line)?;
+    let (distance, width) = cut(rest)?;
+    if cut(width).is_some() {
+        return None;
     }
-    ParamsText::Bad
+    Some(ImDetectParams {
+        min_prom: numeric::of_u32(number(floor, MAX_NUMBER)?),
+        min_distance_scans: number(distance, limits::MAX_COUNT)?,
+        min_width_scans: number(width, limits::MAX_COUNT)?,
+    })
 }
 
 // The place of the first LF at `from` or after it.
-pub fn next_line(bytes: &[u8], from: usize) -> LineEnd
+pub fn next_line(bytes: &[u8], from: usize) -> Option<usize>
     ensures { result ≡ next_line bytes.now from }
 {
-    let mut i = from;
-    while i < bytes.len() {
-        if bytes[i] == 10 {
-            return LineEnd::At(i);
-        }
-        i += 1;
+    if bytes.len() < from {
+        return None;
     }
-    LineEnd::Missing
+    let k = place_of(b'\n', &bytes[from..])?;
+    Some(from + k)
 }
 
 // Whether a text, which the caller takes up to an LF, ends in CR.
 pub fn ends_in_cr(text: &[u8]) -> bool
     ensures { result ≡ ends_in_cr text.now }
 {
-    let n = text.len();
-    if n == 0 {
-        return false;
+    match text.last() {
+        Some(&b) => b == b'\r',
+        None => false,
     }
-    text[n - 1] == 13
 }
 
 // The verdict on the first line.
-fn opened(p: ParamsText) -> Verdict
+fn opened(p: Option<ImDetectParams>) -> Verdict
     ensures { result ≡ opened p }
 {
     match p {
-        ParamsText::Params(params) => Verdict::Heading(RowsSoFar {
+        Some(params) => Verdict::Heading(RowsSoFar {
             params,
             count: 0,
             rows: 0,
         }),
-        ParamsText::Bad => Verdict::Refused,
+        None => Verdict::Refused,
     }
 }
 
-// Whether a row of n fields may come next.
-fn is_next(s: RowsSoFar, n: usize) -> bool
-    ensures { result ≡ is_next s n }
-{
-    ((s.count == 0) | (n == s.count)) & (s.rows <= limits::LAST_ROW)
+impl RowsSoFar {
+    // Whether a row of n fields may come next.
+    #[tactic(auto, unfolding(crate::specs::Table::is_next))]
+    fn is_next(self, n: usize) -> bool
+        ensures { result ≡ is_next self n }
+    {
+        ((self.count == 0) | (n == self.count)) & (self.rows <= limits::LAST_ROW)
+    }
 }
 
 // The verdict on a further line.
-fn counted(s: RowsSoFar, row: RowText) -> Verdict
+#[tactic(auto, using(crate::proofs::Laws::next_room))]
+fn counted(s: RowsSoFar, row: Option<usize>) -> Verdict
     ensures { result ≡ counted s row }
 {
     match row {
-        RowText::Row(n) => {
-            if is_next(s, n) {
-                let params = s.params;
-                return Verdict::Row(RowsSoFar {
-                    params,
-                    count: n,
-                    rows: s.rows + 1,
-                });
-            }
-            Verdict::Refused
-        }
-        RowText::Bad => Verdict::Refused,
+        Some(n) if s.is_next(n) => Verdict::Row(RowsSoFar {
+            count: n,
+            rows: s.rows + 1,
+            ..s
+        }),
+        _ => Verdict::Refused,
     }
 }

@@ -1,17 +1,16 @@
 -- Laws of text that is put behind other text, of bytes that move to the front of a buffer, and of how the table stands.
 use mathlib.Core.Path.{◌≡◌, refl, sym, ◌∙◌, ap, subst}
 use mathlib.Core.Bool.{true, false, cond}
-use mathlib.Core.List.{List, [], ◌∷◌, ◌++◌, append_assoc, append-nil}
-use Prim.Native.Nat.{ℕ, ◌≤◌, ◌<◌, ◌+◌, ◌-◌}
-use native.Mathlib.Numerals.{add-one}
+use mathlib.Core.List.{List, [], ◌++◌, append_assoc, append-nil}
+use Prim.Native.Nat.{ℕ, ◌≤◌, ◌+◌, ◌-◌}
 use native.Mathlib.Omega.{arith}
-use lib.ListN.{length, get_or, take, drop, set, length-append, length-drop, take-append-drop}
-use lib.Seq.{drop-drop, take-suc, take_at, take-add, take-take, take_all, take-append-le, drop_at, get_or-append-add, get_or-drop, length-take-le}
+use lib.ListN.{length, take, drop, length-append, length-drop, take-append-drop}
+use lib.Seq.{drop-drop, take_at, take-add, take-take, take_all, take-append-le, drop_at, length-take-le}
 use borrow.Rule.Slice.PartMut.{put_mid}
 use Rattle.table.specs.Sizes.{line_room}
 use Rattle.table.specs.Print.{put_at}
 use Rattle.table.specs.Lines.{no_lf}
-use Rattle.table.proofs.Laws.{push, part}
+use Rattle.table.proofs.Laws.{part}
 use Rattle.table.proofs.Buffers.{put-part}
 use Rattle.tabletext.specs.declared.inner.Fed.{Fed}
 use Rattle.tabletext.specs.Bytes.{text_from, Put, Through}
@@ -33,34 +32,6 @@ unfolding put_at
 added-front out₀ out x w n h a =
     let l : length (take w out₀ ++ x) ≡ n = rw (length-append, length-take-le w out₀ h) (sym a.count) in
     ap (take n) (a.text ∙ sym (append_assoc (take w out₀) x (drop (w + length x) out₀))) ∙ take_at (take w out₀ ++ x) (drop (w + length x) out₀) n l
-
--- ---- bytes to the front
-
--- the first i bytes from a place on stand at the front
-abbrev pub Moved : List ℕ → ℕ → List ℕ → ℕ → Type 0
-Moved buf₀ from buf i = buf ≡ take i (drop from buf₀) ++ drop i buf₀
-
-module _ (buf₀ : List ℕ) (from : ℕ) (buf : List ℕ) (i : ℕ) (m : Moved buf₀ from buf i) where
-  pub moved_more : from + i < length buf₀ → Moved buf₀ from (set buf i (get_or buf (from + i) 0)) (i + 1)
-  moved_more h =
-      let p = take i (drop from buf₀) in
-      let lp : length p ≡ i = length-take-le i (drop from buf₀) (simp length-drop (omega arith)) in
-      let k : length p + from ≡ from + i = omega arith in
-      let k' : i + from ≡ from + i = omega arith in
-      let v : get_or buf (from + i) 0 ≡ get_or (drop from buf₀) i 0 =
-      ap (λ (l : List ℕ). get_or l (from + i) 0) m
-      ∙ subst (λ (z : ℕ). get_or (p ++ drop i buf₀) z 0 ≡ get_or (drop i buf₀) from 0) k (get_or-append-add p (drop i buf₀) from 0)
-      ∙ get_or-drop i buf₀ from 0
-      ∙ ap (λ (z : ℕ). get_or buf₀ z 0) k'
-      ∙ sym (get_or-drop from buf₀ i 0) in
-      let t : take (i + 1) (drop from buf₀) ≡ p ++ (get_or (drop from buf₀) i 0 ∷ []) = rw add-one (take-suc (drop from buf₀) i 0 (simp length-drop (omega arith))) in
-      rw (v, t, m) (push p buf₀ i (get_or (drop from buf₀) i 0) lp (omega arith))
-
-  pub moved_all : from + i ≤ length buf₀ → take i buf ≡ take i (drop from buf₀)
-  moved_all h =
-      let p = take i (drop from buf₀) in
-      let lp : length p ≡ i = length-take-le i (drop from buf₀) (simp length-drop (omega arith)) in
-      ap (take i) m ∙ take_at p (drop i buf₀) i lp
 
 -- ---- bytes that are held
 

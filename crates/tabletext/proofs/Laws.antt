@@ -13,7 +13,7 @@ use Rattle.refusal.proofs.Bools.{clash}
 use Rattle.table.specs.declared.Progress.{Progress}
 use Rattle.table.specs.declared.RowsSoFar.{RowsSoFar}
 use Rattle.table.specs.declared.Verdict.{Verdict}
-use Rattle.table.specs.declared.LineEnd.{LineEnd}
+use Rattle.std.proofs.Common.{Some}
 use Rattle.table.specs.Print.{refusal}
 use Rattle.table.specs.Sizes.{max_line}
 use Rattle.table.specs.Text.{onto, lf, lf_from, next_line}
@@ -45,15 +45,15 @@ after-used s (Verdict.Row t) from used = refl
 after-used s Verdict.Refused from used = refl
 
 -- ---- a line that an LF ends
-lf-first : (j : ℕ) (x rest : List ℕ) → no_lf x ≡ true → lf_from j (x ++ (lf ∷ rest)) ≡ LineEnd.At (j + length x)
+lf-first : (j : ℕ) (x rest : List ℕ) → no_lf x ≡ true → lf_from j (x ++ (lf ∷ rest)) ≡ Some (j + length x)
 unfolding lf_from no_lf
-lf-first j [] rest h = ap LineEnd.At (sym (add-zero j))
+lf-first j [] rest h = ap Some (sym (add-zero j))
 lf-first j (b ∷ x) rest h = go (eqb b lf) h (lf-first (j + 1) x rest)
   where
-    go : (e : Bool) → (not e && no_lf x) ≡ true → (no_lf x ≡ true → lf_from (j + 1) (x ++ (lf ∷ rest)) ≡ LineEnd.At (j + 1 + length x))
-        → cond e (LineEnd.At j) (lf_from (j + 1) (x ++ (lf ∷ rest))) ≡ LineEnd.At (j + suc (length x))
+    go : (e : Bool) → (not e && no_lf x) ≡ true → (no_lf x ≡ true → lf_from (j + 1) (x ++ (lf ∷ rest)) ≡ Some (j + 1 + length x))
+        → cond e (Some j) (lf_from (j + 1) (x ++ (lf ∷ rest))) ≡ Some (j + suc (length x))
     go true h r = clash false h refl
-    go false h r = let e : j + 1 + length x ≡ j + suc (length x) = omega arith in r h ∙ ap LineEnd.At e
+    go false h r = let e : j + 1 + length x ≡ j + suc (length x) = omega arith in r h ∙ ap Some e
 
 pub cr-some : (x : List ℕ) → ends_in_cr x ≡ true → 0 < length x
 unfolding ends_in_cr
@@ -61,8 +61,8 @@ cr-some [] h = clash false h refl
 cr-some (b ∷ x) h = omega arith
 
 module _ (s : Progress) (x : List ℕ) (h : no_lf x ≡ true) (rest : List ℕ) where
-  at : next_line (x ++ (lf ∷ rest)) 0 ≡ LineEnd.At (length x)
-  at = lf-first 0 x rest h ∙ ap LineEnd.At (zero-add (length x))
+  at : next_line (x ++ (lf ∷ rest)) 0 ≡ Some (length x)
+  at = lf-first 0 x rest h ∙ ap Some (zero-add (length x))
 
   front : take (length x) (x ++ (lf ∷ rest)) ≡ x
   front = take_at x (lf ∷ rest) (length x) refl
@@ -198,7 +198,7 @@ put-more s bytes out₀ out x y last f g p on fits e q =
     }
 
 -- ---- the line that ends at an LF
-module _ (bytes : List ℕ) (from i : ℕ) (h : next_line bytes from ≡ LineEnd.At i) where
+module _ (bytes : List ℕ) (from i : ℕ) (h : next_line bytes from ≡ Some i) where
   pub line-place : (from ≤ i) × (i < length bytes)
   line-place =
       let t = lf-at from (drop from bytes) i h in
@@ -229,7 +229,7 @@ lf-past k (suc n) (b ∷ bs) h =
     let e : k + suc n ≡ k + 1 + n = omega arith in
     rw e (go (eqb b lf) h (lf-past (k + 1) n bs))
   where
-    go : (e : Bool) → (not e && no_lf (take n bs)) ≡ true → (no_lf (take n bs) ≡ true → lf_from (k + 1 + n) (drop n bs) ≡ lf_from (k + 1) bs) → lf_from (k + 1 + n) (drop n bs) ≡ cond e (LineEnd.At k) (lf_from (k + 1) bs)
+    go : (e : Bool) → (not e && no_lf (take n bs)) ≡ true → (no_lf (take n bs) ≡ true → lf_from (k + 1 + n) (drop n bs) ≡ lf_from (k + 1) bs) → lf_from (k + 1 + n) (drop n bs) ≡ cond e (Some k) (lf_from (k + 1) bs)
     go true h r = clash false h refl
     go false h r = r h
 

@@ -1,16 +1,15 @@
 // For buffers that the caller has sized: the room for a line's text is `LINE_ROOM` bytes, that for a row `MAX_FIELDS` readings.
-ghost use Rattle.std.specs.Prelude.{◌≡◌, true, List, [], ◌∷◌, ◌++◌, ℕ, ◌≤◌, ◌<◌, ◌+◌, length, take, drop};
+ghost use Rattle.std.specs.Prelude.{◌≡◌, true, Some, List, [], ◌∷◌, ◌++◌, ℕ, ◌≤◌, ◌<◌, ◌+◌, length, take, drop};
 ghost use Rattle.table.specs.declared.Progress.{Progress};
-ghost use Rattle.table.specs.declared.LineEnd.{LineEnd};
 ghost use Rattle.table.specs.Sizes.{max_fields, max_line, line_room};
 ghost use Rattle.table.specs.Text.{lf, next_line};
 ghost use Rattle.table.specs.Lines.{no_lf};
 ghost use Rattle.tabletext.specs.Bytes.{text_from, Put, Through, after_line};
 
-use table::{LineEnd, Progress, Verdict};
+use table::{Progress, Verdict};
 
 // What some bytes give: what has been accepted then, whether the table goes on, the place behind the lines that were worked
-// through, and how many bytes are printed for them.
+// through, and how many bytes are printed for them. `goes_on` stands beside the progress: that is told of a refused line too.
 #[derive(Clone, Copy)]
 pub struct Fed {
     pub progress: Progress,
@@ -23,13 +22,7 @@ fn after_line(s: Progress, verdict: Verdict, from: usize, used: usize) -> Fed
     ensures { result ≡ after_line s verdict from used }
 {
     match verdict {
-        Verdict::Heading(t) => Fed {
-            progress: Progress::Rows(t),
-            goes_on: true,
-            from,
-            used,
-        },
-        Verdict::Row(t) => Fed {
+        Verdict::Heading(t) | Verdict::Row(t) => Fed {
             progress: Progress::Rows(t),
             goes_on: true,
             from,
@@ -54,8 +47,7 @@ fn put_ended(s: Progress, text: &[u8], row: &mut [f32], out: &mut [u8]) -> Fed
     if table::ends_in_cr(text) {
         let n = text.len() - 1;
         let p = peaklines::inner::put_line(s, &text[..n], row, out);
-        let verdict = p.verdict;
-        return after_line(s, verdict, from, p.used);
+        return after_line(s, p.verdict, from, p.used);
     }
     let used = table::inner::put_refusal(out);
     after_line(s, Verdict::Refused, from, used)
@@ -63,20 +55,15 @@ fn put_ended(s: Progress, text: &[u8], row: &mut [f32], out: &mut [u8]) -> Fed
 
 // One line more, which ends at the LF at place i.
 fn put_next(f: Fed, bytes: &[u8], i: usize, row: &mut [f32], out: &mut [u8]) -> Fed
-    requires { (f.goes_on ≡ true) × (next_line bytes.now f.from ≡ LineEnd.At i) × (max_fields ≤ length row.old) × (f.used + line_room ≤ length out.old) }
+    requires { (f.goes_on ≡ true) × (next_line bytes.now f.from ≡ Some i) × (max_fields ≤ length row.old) × (f.used + line_room ≤ length out.old) }
     ensures put { (s : Progress) (out₀ : List ℕ) → Put s bytes.now out₀ out.old f → Put s bytes.now out₀ out.new result }
     ensures from_lt_from { f.from < result.from }
 {
-    let progress = f.progress;
-    let from = f.from;
-    let used = f.used;
-    let p = put_ended(progress, &bytes[from..i], row, &mut out[used..]);
-    let then = p.progress;
+    let p = put_ended(f.progress, &bytes[f.from..i], row, &mut out[f.used..]);
     Fed {
-        progress: then,
-        goes_on: p.goes_on,
-        from: from + p.from,
-        used: used + p.used,
+        from: f.from + p.from,
+        used: f.used + p.used,
+        ..p
     }
 }
 
@@ -95,19 +82,14 @@ pub fn put_lines(s: Progress, bytes: &[u8], seen: usize, row: &mut [f32], out: &
     };
     let mut look = seen;
     while table::LINE_ROOM <= out.len() - f.used {
-        let end = table::next_line(bytes, look);
-        match end {
-            LineEnd::At(i) => {
-                f = put_next(f, bytes, i, row, out);
-                look = f.from;
-                if !f.goes_on {
-                    return f;
-                }
-            }
-            LineEnd::Missing => {
-                return f;
-            }
+        let Some(i) = table::next_line(bytes, look) else {
+            return f;
+        };
+        f = put_next(f, bytes, i, row, out);
+        if !f.goes_on {
+            return f;
         }
+        look = f.from;
     }
     f
 }
@@ -119,9 +101,8 @@ pub fn put_last(s: Progress, bytes: &[u8], row: &mut [f32], out: &mut [u8]) -> u
     ensures room { result ≤ length out.old }
     ensures front { out.new ≡ text_from s bytes.now ++ drop result out.old }
 {
-    if 0 < bytes.len() {
-        let p = peaklines::inner::put_line(s, bytes, row, out);
-        return p.used;
+    if !bytes.is_empty() {
+        return peaklines::inner::put_line(s, bytes, row, out).used;
     }
     match s {
         Progress::Start => table::inner::put_refusal(out),

@@ -2,4 +2,3 @@
 pub mod Laws
 pub mod TofLaws
 pub mod Exact
-pub mod TofWhich

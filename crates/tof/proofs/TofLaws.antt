@@ -2,7 +2,9 @@
 use mathlib.Core.Path.{◌≡◌, refl, sym, ◌∙◌, ap, subst}
 use mathlib.Core.Bool.{Bool, true, false, cond, ◌&&◌}
 use mathlib.Core.List.{List, [], ◌∷◌}
-use mathlib.Core.Option.{Option, none, some}
+use mathlib.Core.Option.{none, some}
+use mathlib.Core.Option.{Option as Values}
+use Rattle.std.specs.Prelude.{Option, Some, None}
 use Prim.Native.Nat.{ℕ, zero, suc, ◌+◌, ◌-◌, ◌*◌, ◌/◌, ◌%◌, ◌≤◌, ◌<◌, min, max}
 use native.Mathlib.Nat.{div-le_self, le-div_iff_mul-le, div-lt_iff_lt-mul, div-mul-le_self, div-add-mod', dvd-sub, dvd_of_mod-eq-zero, mod-eq-zero_of_dvd, mul-mod_left, mul-le-mul_right, add-mul}
 use native.Mathlib.Omega.{arith}
@@ -11,9 +13,8 @@ use lib.Dec.{leb, ltb, eqb}
 use lib.ListN.{length, get_or}
 use Rattle.refusal.specs.Refusal.{first_of, ascending_from}
 use Rattle.refusal.proofs.RefusalLaws.{lowest_by, none-by, applies_for}
-use Rattle.refusal.proofs.Bools.{clash, both, all5}
+use Rattle.refusal.proofs.Bools.{both, all5}
 use Rattle.refusal.specs.Answers.{Says}
-use Rattle.refusal.specs.AnswersLaws.{from_option}
 use Rattle.limits.specs.Limits.{max_step, max_tof, max_tof_bound}
 use Rattle.params.specs.Params.{all_up_to, sound_tof}
 use Rattle.tof.specs.declared.TofScale.{TofScale}
@@ -288,16 +289,17 @@ scale-sound lo hi step p o u =
 -- a scale that is built is sound, so that no entry refuses it for its numbers
 pub built-sound : BuiltSound
 unfolding build_answer
-built-sound tofs step s h = go (ltb (lowest_tof tofs) (highest_tof tofs)) refl (ap (λ (a : Says (Option TofScale)). from_option (λ o. o) none a.values) h)
+built-sound tofs step s h = go (ltb (lowest_tof tofs) (highest_tof tofs)) refl (ap (λ (a : Says (Option TofScale)). a.values) h)
   where
     n : build_number tofs step ≡ 0
     n = ap (λ (a : Says (Option TofScale)). a.number) h
 
     go : (d : Bool) → ltb (lowest_tof tofs) (highest_tof tofs) ≡ d
-        → from_option (λ o. o) none (cond (eqb (build_number tofs step) 0) (some (cond d (some (scale_of (lowest_tof tofs) (highest_tof tofs) step)) none)) none) ≡ some s → Sound s
+        → cond (eqb (build_number tofs step) 0) (some (cond d (Some (scale_of (lowest_tof tofs) (highest_tof tofs) step)) None)) none ≡ some (Some s) → Sound s
     go true e v =
         let o : lowest_tof tofs < highest_tof tofs = ltb-true _ _ e in
         let u : highest_tof tofs ≤ max_tof = leb-true _ _ (sym (up-to-highest max_tof tofs) ∙ not-false _ (none-builds tofs step 5 n)) in
-        let k : scale_of (lowest_tof tofs) (highest_tof tofs) step ≡ s = ap (from_option (λ (t : TofScale). t) s) (rw n at v) in
+        let w : some (Some (scale_of (lowest_tof tofs) (highest_tof tofs) step)) ≡ some (Some s) = rw n at v in
+        let k : scale_of (lowest_tof tofs) (highest_tof tofs) step ≡ s = cc in
         subst Sound k (scale-sound (lowest_tof tofs) (highest_tof tofs) step (not-false _ (none-builds tofs step 4 n)) (omega arith) u)
-    go false e v = clash false (ap (from_option (λ (t : TofScale). true) false) (rw n at v)) refl
+    go false e v = let w : ◌≡◌ {A = Values (Option TofScale)} (some None) (some (Some s)) = rw n at v in cc

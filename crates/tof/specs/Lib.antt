@@ -2,6 +2,5 @@
 pub mod Tof
 pub mod TofAnswers
 pub mod TofLaws
-pub mod TofWhich
 pub mod Exact
 pub mod Cases

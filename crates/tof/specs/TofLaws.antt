@@ -1,12 +1,12 @@
 -- What the definitions of the scale come to.
-use Rattle.std.specs.Prelude.{◌≡◌, Bool, true, cond, ◌&&◌, List, ℕ, ◌+◌, ◌*◌, ◌%◌, ◌≤◌, ◌<◌, min, max, leb, ltb, length, get_or}
+use Rattle.std.specs.Prelude.{◌≡◌, Bool, true, cond, ◌&&◌, List, ℕ, ◌+◌, ◌*◌, ◌%◌, ◌≤◌, ◌<◌, min, max, leb, ltb, length, get_or, Ok, Some}
 use Rattle.refusal.specs.Refusal.{Lowest}
+use Rattle.refusal.specs.Numbered.{says}
 use Rattle.limits.specs.Limits.{max_tof, max_rows, max_tof_bound}
 use Rattle.params.specs.Params.{all_up_to, sound_tof}
 use Rattle.tof.specs.declared.TofScale.{TofScale}
 use Rattle.tof.specs.declared.inner.Span.{Span}
-use Rattle.tof.specs.declared.BuildAnswer.{BuildAnswer}
-use Rattle.tof.specs.TofAnswers.{build_checks, build_number, build_says, build_answer}
+use Rattle.tof.specs.TofAnswers.{build_checks, build_number, build_answer}
 use Rattle.tof.specs.Tof.{Sound, edge, in_scale, bin_of, last_bin, window_bins, row_place, scale_checks, scale_number, lowest_tof, highest_tof}
 
 -- ---- numbers
@@ -97,4 +97,4 @@ NoScale =
 
 -- a scale that is built is sound, so that no entry refuses it for its numbers: `built-sound`
 abbrev pub BuiltSound : Type 0
-BuiltSound = (tofs : List ℕ) (step : ℕ) (s : TofScale) → build_answer tofs step ≡ build_says (BuildAnswer.Scale s) → Sound s
+BuiltSound = (tofs : List ℕ) (step : ℕ) (s : TofScale) → build_answer tofs step ≡ says (Ok (Some s)) → Sound s

@@ -1,11 +1,13 @@
 // Steps of the scale, for values that a caller has checked.
-ghost use Rattle.std.specs.Prelude.{◌≡◌, true, ◌≤◌, ◌<◌, min, max};
+ghost use Rattle.std.specs.Prelude.{◌≡◌, true, ◌≤◌, ◌<◌, min, max, OnOk};
 ghost use Rattle.limits.specs.Limits.{max_tof, max_bin_place};
 ghost use Rattle.numeric.specs.Numeric.{in_range};
+ghost use Rattle.refusal.specs.Numbered.{number_in};
 ghost use Rattle.tof.specs.Tof.{Sound, edge, in_scale, bin_of, window_bins, center_f, center_at_f, row_place, sound_step, sound_ends, agreeing, scale_number, ends_of, scale_of};
 
 use super::TofScale;
 use params::RowPlace;
+use refusal::Refusal;
 
 #[derive(Clone, Copy)]
 pub struct Span {
@@ -15,18 +17,21 @@ pub struct Span {
 
 // ---- what a scale must be
 
+#[tactic(auto, unfolding(crate::specs::Tof::sound_step))]
 pub fn sound_step(step: u32) -> bool
     ensures { result ≡ sound_step step }
 {
     (1 <= step) & (step <= limits::MAX_STEP)
 }
 
+#[tactic(auto, unfolding(crate::specs::Tof::sound_ends))]
 pub fn sound_ends(s: TofScale) -> bool
     ensures { result ≡ sound_ends s }
 {
     (s.tof_min <= limits::MAX_TOF) & (s.tof_max <= limits::MAX_TOF)
 }
 
+#[tactic(auto, unfolding(crate::specs::Tof::agreeing))]
 pub fn agrees(s: TofScale) -> bool
     ensures { result ≡ agreeing s }
 {
@@ -41,20 +46,22 @@ pub fn agrees(s: TofScale) -> bool
         & (s.num_bins as u64 == ((s.tof_max - s.tof_min) / s.tof_step) as u64 + 1)
 }
 
-// The lowest number that applies, or 0.
-pub fn number(s: TofScale, value: bool, tofs: bool) -> u32
-    ensures { result ≡ scale_number s value tofs }
+// Refuses with the lowest number that applies.
+#[tactic(auto, unfolding(crate::specs::Tof::scale_number, refusal::specs::Refusal::first_of))]
+pub fn check(s: TofScale, value: bool, tofs: bool) -> Result<(), Refusal>
+    ensures number { number_in result ≡ scale_number s value tofs }
+    ensures sound { OnOk result (Sound s × (value ≡ true) × (tofs ≡ true)) }
 {
     if !(sound_step(s.tof_step) & value) {
-        return 4;
+        return Err(Refusal::Value);
     }
     if !(sound_ends(s) & tofs) {
-        return 5;
+        return Err(Refusal::Axis);
     }
     if !agrees(s) {
-        return 22;
+        return Err(Refusal::Scale);
     }
-    0
+    Ok(())
 }
 
 // ---- bins
@@ -73,12 +80,13 @@ pub fn bin_of(s: TofScale, tof: u32) -> u32
 }
 
 // The first and the last bin of a window.
+#[tactic(auto, unfolding(crate::specs::Tof::window_bins))]
 pub fn window_bins(s: TofScale, a: u32, b: u32) -> Span
     requires { Sound s }
     ensures { result ≡ window_bins s a b }
 {
-    let lo = numeric::inner::lower(a, b);
-    let hi = numeric::inner::higher(a, b);
+    let lo = a.min(b);
+    let hi = a.max(b);
     if hi <= s.tof_min {
         return Span { lo: 0, hi: 0 };
     }
@@ -87,8 +95,8 @@ pub fn window_bins(s: TofScale, a: u32, b: u32) -> Span
         return Span { lo: last, hi: last };
     }
     Span {
-        lo: bin_of(s, numeric::inner::higher(lo, s.tof_min)),
-        hi: bin_of(s, numeric::inner::lower(hi, s.tof_max)),
+        lo: bin_of(s, lo.max(s.tof_min)),
+        hi: bin_of(s, hi.min(s.tof_max)),
     }
 }
 
@@ -101,6 +109,7 @@ pub fn edge_of(s: TofScale, i: u32) -> u32
     s.tof_min + i * s.tof_step
 }
 
+#[tactic(auto, unfolding(crate::specs::Tof::center_f))]
 pub fn center_of(s: TofScale, i: u32) -> f32
     requires { Sound s × (i < s.num_bins) }
     ensures { result ≡ center_f s i }
@@ -122,7 +131,7 @@ pub fn center_between(s: TofScale, mu: f32) -> f32
     }
     let i = numeric::cast_sat(mu);
     let t = mu - numeric::of_u32(i);
-    center_of(s, i) * (1.0 - t) + center_of(s, numeric::inner::lower(i + 1, last)) * t
+    center_of(s, i) * (1.0 - t) + center_of(s, (i + 1).min(last)) * t
 }
 
 // What row i is told of its place.
@@ -145,21 +154,17 @@ pub fn row_place(s: TofScale, i: u32) -> RowPlace
 pub fn ends_of(tofs: &[u32]) -> Span
     ensures { result ≡ ends_of tofs.now }
 {
-    let mut lo = 4294967295u32;
+    let mut lo = u32::MAX;
     let mut hi = 0u32;
-    for i in 0..tofs.len() {
-        let t = tofs[i];
-        if t < lo {
-            lo = t;
-        }
-        if t > hi {
-            hi = t;
-        }
+    for &t in tofs {
+        lo = lo.min(t);
+        hi = hi.max(t);
     }
     Span { lo, hi }
 }
 
 // The scale from the lowest value to the highest.
+#[tactic(auto, unfolding(crate::specs::Tof::scale_of))]
 pub fn scale_of(lo: u32, hi: u32, step: u32) -> TofScale
     requires { (0 < step) × (lo ≤ hi) × (hi ≤ max_tof) }
     ensures { result ≡ scale_of lo hi step }

@@ -1,3 +1,2 @@
 -- The proofs of what specs/ states, and what the proofs of functions cite.
-pub mod TraceLaws
 pub mod Laws

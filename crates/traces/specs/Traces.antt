@@ -1,7 +1,7 @@
 -- Retention traces: the readings of a window of an index, summed by frame, over all frames.
-use Rattle.std.specs.Prelude.{Bool, true, ◌&&◌, List, ℕ, leb, length, Float}
-use Rattle.std.proofs.Math.Option.{none, some}
-use Rattle.refusal.specs.Answers.{Says}
+use Rattle.std.specs.Prelude.{Bool, true, ◌&&◌, List, ℕ, leb, length, Float, Result}
+use Rattle.refusal.specs.declared.Refusal.{Refusal}
+use Rattle.refusal.specs.Numbered.{says}
 use Rattle.limits.specs.Limits.{max_reading, last_row, max_count, max_scan, max_tof_bound}
 use Rattle.tof.specs.declared.TofScale.{TofScale}
 use Rattle.tof.specs.Tof.{sound_step, sound_ends, agreeing}
@@ -10,10 +10,8 @@ use Rattle.frameindex.specs.FrameIndex.{Index, frames}
 use Rattle.frameindex.specs.IndexNumber.{index_number, plainly, Front}
 use Rattle.framesums.specs.declared.inner.Window.{Window}
 use Rattle.framesums.specs.Sums.{frame_sums}
+use Rattle.windows.specs.declared.inner.Bounds.{Bounds}
 use Rattle.windows.specs.Windows.{padded_bins, bounds_window}
-use Rattle.traces.specs.declared.inner.Bounds.{Bounds}
-use Rattle.traces.specs.declared.TraceAnswer.{TraceAnswer}
-use Rattle.traces.specs.declared.TraceAnswer.TheVariants.{Trace, Refused}
 
 -- a sum for each frame, from the first on
 abbrev pub trace_of : Index → Window → List Float
@@ -42,22 +40,17 @@ abbrev pub bounds_asks : Index → TofScale → Bounds → ℕ → Further
 bounds_asks ix scale b room =
     plainly (sound_step scale.tof_step && leb b.pad max_count) (sound_axes scale b) (leb (frames ix) room) (agreeing scale)
 
--- what an answer says: the count of the frames, or the number that applies
-abbrev pub trace_says : TraceAnswer → Says ℕ
-trace_says (Trace n) = record { number = 0; values = some n }
-trace_says (Refused n) = record { number = n; values = none }
-
 -- ---- what is left of a call, with readings to 2^32
 
 -- around a TOF row
-abbrev pub RowAnswered : Index → ℕ → ℕ → ℕ → ℕ → List Float → List Float → TraceAnswer → Type 0
+abbrev pub RowAnswered : Index → ℕ → ℕ → ℕ → ℕ → List Float → List Float → Result ℕ Refusal → Type 0
 RowAnswered ix row pad s t was is r =
-    Front (index_number max_reading ix (row_asks ix row pad s t (length was))) (trace_of ix (padded_bins row row pad s t)) was is (trace_says r)
+    Front (index_number max_reading ix (row_asks ix row pad s t (length was))) (trace_of ix (padded_bins row row pad s t)) was is (says r)
 
 -- by TOF bounds
 abbrev pub window_by : TofScale → Bounds → Window
 window_by scale b = bounds_window scale b.tof_lo b.tof_hi b.pad b.scan_lo b.scan_hi
 
-abbrev pub BoundsAnswered : Index → TofScale → Bounds → List Float → List Float → TraceAnswer → Type 0
+abbrev pub BoundsAnswered : Index → TofScale → Bounds → List Float → List Float → Result ℕ Refusal → Type 0
 BoundsAnswered ix scale b was is r =
-    Front (index_number max_reading ix (bounds_asks ix scale b (length was))) (trace_of ix (window_by scale b)) was is (trace_says r)
+    Front (index_number max_reading ix (bounds_asks ix scale b (length was))) (trace_of ix (window_by scale b)) was is (says r)

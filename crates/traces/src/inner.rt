@@ -1,27 +1,26 @@
-// The numbers of traces, whose reading limit a caller gives.
-ghost use Rattle.std.specs.Prelude.{◌≡◌};
+// The steps of traces, whose reading limit a caller gives.
+ghost use Rattle.std.specs.Prelude.{◌≡◌, ◌++◌, ◌≤◌, length, drop, IfOk, OnOk};
+ghost use Rattle.refusal.specs.Numbered.{number_in};
+ghost use Rattle.limits.specs.Limits.{last_row, max_count};
+ghost use Rattle.tof.specs.Tof.{Sound};
+ghost use Rattle.frameindex.specs.FrameIndex.{frames};
 ghost use Rattle.frameindex.specs.IndexNumber.{index_number};
-ghost use Rattle.framesums.specs.Steps.{index_of};
-ghost use Rattle.traces.specs.Traces.{sound_scans, sound_axes, row_asks, bounds_asks};
+ghost use Rattle.traces.specs.Traces.{trace_of, sound_scans, sound_axes, row_asks, bounds_asks};
 
+use frameindex::{CheckedIndex, FrameIndex};
+use framesums::inner::Window;
+use refusal::Refusal;
 use tof::TofScale;
+use windows::inner::Bounds;
 
-// TOF bounds, the bins to take on either side of theirs, and scans.
-#[derive(Clone, Copy)]
-pub struct Bounds {
-    pub tof_lo: u32,
-    pub tof_hi: u32,
-    pub pad: u32,
-    pub scan_lo: u32,
-    pub scan_hi: u32,
-}
-
+#[tactic(auto, unfolding(crate::specs::Traces::sound_scans))]
 fn sound_scans(lo: u32, hi: u32) -> bool
     ensures { result ≡ sound_scans lo hi }
 {
     (lo <= limits::MAX_SCAN) & (hi <= limits::MAX_SCAN)
 }
 
+#[tactic(auto, unfolding(crate::specs::Traces::sound_axes))]
 fn sound_axes(scale: TofScale, b: Bounds) -> bool
     ensures { result ≡ sound_axes scale b }
 {
@@ -31,60 +30,63 @@ fn sound_axes(scale: TofScale, b: Bounds) -> bool
         & sound_scans(b.scan_lo, b.scan_hi)
 }
 
-// The lowest number that applies, or 0: for readings with patterns to `limit`, where the trace goes to a list of `room` places.
-pub fn row_number(
+// The index as a checked one, or the lowest number that applies: for readings with patterns to `limit`, where the trace goes to a list of
+// `room` places.
+pub fn check_row<'a>(
     limit: u32,
-    starts: &[u32],
-    bins: &[u32],
-    offsets: &[u32],
-    scans: &[u32],
-    readings: &[f32],
+    ix: &FrameIndex<'a>,
     tof_row: u32,
     bin_pad: u32,
     scan_lo: u32,
     scan_hi: u32,
     room: usize,
-) -> u32
-    ensures { result ≡ index_number limit (index_of starts.now bins.now offsets.now scans.now readings.now)
-        (row_asks (index_of starts.now bins.now offsets.now scans.now readings.now) tof_row bin_pad scan_lo scan_hi room) }
+) -> Result<CheckedIndex<'a>, Refusal>
+    ensures number { number_in result ≡ index_number limit ix.now (row_asks ix.now tof_row bin_pad scan_lo scan_hi room) }
+    ensures same { IfOk result (λ c. c ≡ ix.now) }
+    ensures held { OnOk result ((tof_row ≤ last_row) × (bin_pad ≤ max_count) × (frames ix.now ≤ room)) }
 {
-    let seen = frameindex::inner::see(limit, starts, bins, offsets, scans, readings);
-    let axes = sound_scans(scan_lo, scan_hi);
-    let frames = frameindex::inner::frames(starts.len());
-    let further = frameindex::numbers::plain(
-        (tof_row <= limits::LAST_ROW) & (bin_pad <= limits::MAX_COUNT),
-        axes,
-        frames <= room,
-        true,
-    );
-    frameindex::numbers::number(seen, further)
+    ix.check(
+        limit,
+        frameindex::numbers::plain(
+            (tof_row <= limits::LAST_ROW) & (bin_pad <= limits::MAX_COUNT),
+            sound_scans(scan_lo, scan_hi),
+            ix.frames() <= room,
+            true,
+        ),
+    )
 }
 
 // The same by bounds.
-pub fn bounds_number(
+#[tactic(auto, using(crate::proofs::Laws::bounds_held))]
+pub fn check_bounds<'a>(
     limit: u32,
-    starts: &[u32],
-    bins: &[u32],
-    offsets: &[u32],
-    scans: &[u32],
-    readings: &[f32],
+    ix: &FrameIndex<'a>,
     scale: TofScale,
     b: Bounds,
     room: usize,
-) -> u32
-    ensures { result ≡ index_number limit (index_of starts.now bins.now offsets.now scans.now readings.now)
-        (bounds_asks (index_of starts.now bins.now offsets.now scans.now readings.now) scale b room) }
+) -> Result<CheckedIndex<'a>, Refusal>
+    ensures number { number_in result ≡ index_number limit ix.now (bounds_asks ix.now scale b room) }
+    ensures same { IfOk result (λ c. c ≡ ix.now) }
+    ensures held { OnOk result (Sound scale × (b.pad ≤ max_count) × (frames ix.now ≤ room)) }
 {
-    let seen = frameindex::inner::see(limit, starts, bins, offsets, scans, readings);
-    let step = tof::inner::sound_step(scale.tof_step);
-    let axes = sound_axes(scale, b);
-    let frames = frameindex::inner::frames(starts.len());
-    let agrees = tof::inner::agrees(scale);
-    let further = frameindex::numbers::plain(
-        step & (b.pad <= limits::MAX_COUNT),
-        axes,
-        frames <= room,
-        agrees,
-    );
-    frameindex::numbers::number(seen, further)
+    ix.check(
+        limit,
+        frameindex::numbers::plain(
+            tof::inner::sound_step(scale.tof_step) & (b.pad <= limits::MAX_COUNT),
+            sound_axes(scale, b),
+            ix.frames() <= room,
+            tof::inner::agrees(scale),
+        ),
+    )
+}
+
+// Puts a sum for each frame to the front of `out`, and answers how many they are.
+pub fn put_trace(ix: &CheckedIndex, w: Window, out: &mut [f32]) -> usize
+    requires { frames ix.now ≤ length out.old }
+    ensures count { result ≡ frames ix.now }
+    ensures sums { out.new ≡ trace_of ix.now w ++ drop (frames ix.now) out.old }
+{
+    let n = ix.frames();
+    framesums::inner::put_frame_sums(ix, 0, n, w, out);
+    n
 }

@@ -8,13 +8,23 @@ use framesums::inner::Window;
 use record::ImPeak1D;
 use tof::TofScale;
 
+// TOF bounds, the bins to take on either side of theirs, and scans.
+#[derive(Clone, Copy)]
+pub struct Bounds {
+    pub tof_lo: u32,
+    pub tof_hi: u32,
+    pub pad: u32,
+    pub scan_lo: u32,
+    pub scan_hi: u32,
+}
+
 // Bins with some more on either side.
 pub fn padded_bins(lo: u32, hi: u32, pad: u32, scan_lo: u32, scan_hi: u32) -> Window
     requires { hi + pad ≤ 4294967295 }
     ensures { result ≡ padded_bins lo hi pad scan_lo scan_hi }
 {
     Window {
-        bin_lo: if lo < pad { 0 } else { lo - pad },
+        bin_lo: lo.saturating_sub(pad),
         bin_hi: hi + pad,
         scan_lo,
         scan_hi,
@@ -22,19 +32,12 @@ pub fn padded_bins(lo: u32, hi: u32, pad: u32, scan_lo: u32, scan_hi: u32) -> Wi
 }
 
 // The bins of TOF bounds, padded.
-pub fn bounds_window(
-    scale: TofScale,
-    tof_lo: u32,
-    tof_hi: u32,
-    pad: u32,
-    scan_lo: u32,
-    scan_hi: u32,
-) -> Window
-    requires { Sound scale × (pad ≤ max_count) }
-    ensures { result ≡ bounds_window scale tof_lo tof_hi pad scan_lo scan_hi }
+pub fn bounds_window(scale: TofScale, b: Bounds) -> Window
+    requires { Sound scale × (b.pad ≤ max_count) }
+    ensures { result ≡ bounds_window scale b.tof_lo b.tof_hi b.pad b.scan_lo b.scan_hi }
 {
-    let bins = tof::inner::window_bins(scale, tof_lo, tof_hi);
-    padded_bins(bins.lo, bins.hi, pad, scan_lo, scan_hi)
+    let bins = tof::inner::window_bins(scale, b.tof_lo, b.tof_hi);
+    padded_bins(bins.lo, bins.hi, b.pad, b.scan_lo, b.scan_hi)
 }
 
 // Those of a peak's bounds.
@@ -42,5 +45,14 @@ pub fn peak_window(scale: TofScale, pad: u32, p: ImPeak1D) -> Window
     requires { Sound scale × (pad ≤ max_count) }
     ensures { result ≡ peak_window scale pad p }
 {
-    bounds_window(scale, p.tof_lo, p.tof_hi, pad, p.left_abs, p.right_abs)
+    bounds_window(
+        scale,
+        Bounds {
+            tof_lo: p.tof_lo,
+            tof_hi: p.tof_hi,
+            pad,
+            scan_lo: p.left_abs,
+            scan_hi: p.right_abs,
+        },
+    )
 }

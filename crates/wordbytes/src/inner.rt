@@ -5,19 +5,13 @@ ghost use Rattle.numeric.specs.Numeric.{all_in_range};
 ghost use Rattle.params.specs.Params.{all_up_to, rising};
 ghost use Rattle.wordbytes.specs.Bytes.{word_at, words_of, floats_of, bytes_of, with_word};
 
-fn join(a: u8, b: u8, c: u8, d: u8) -> u32
-    ensures { result ≡ a + 256 * b + 65536 * c + 16777216 * d }
-{
-    (a as u32) + 256 * (b as u32) + 65536 * (c as u32) + 16777216 * (d as u32)
-}
-
 // The word at place k.
 pub fn word_at(b: &[u8], k: usize) -> u32
     requires { k * 4 + 4 ≤ length b.now }
     ensures { result ≡ word_at b.now k }
 {
     let i = k * 4;
-    join(b[i], b[i + 1], b[i + 2], b[i + 3])
+    u32::from_le_bytes([b[i], b[i + 1], b[i + 2], b[i + 3]])
 }
 
 // Writes a word to place k.
@@ -26,10 +20,7 @@ pub fn put_word(b: &mut [u8], k: usize, w: u32)
     ensures { b.new ≡ with_word b.old k w }
 {
     let i = k * 4;
-    b[i] = (w % 256) as u8;
-    b[i + 1] = (w / 256 % 256) as u8;
-    b[i + 2] = (w / 65536 % 256) as u8;
-    b[i + 3] = (w / 16777216 % 256) as u8;
+    b[i..i + 4].copy_from_slice(&w.to_le_bytes());
 }
 
 // Writes words to the front of `out`.

@@ -1,27 +1,46 @@
-use mathlib.Core.Path.{sym, ◌∙◌}
-use Prim.Native.Nat.{◌<◌, ◌-◌}
-use native.Mathlib.Omega.{arith}
-use lib.ListN.{length}
-use Rattle.framesums.specs.Steps.{index_of}
-use Rattle.expandpeak.specs.Expanded.{run_of}
-use Rattle.expandmany.specs.Many.{many_of}
-use Rattle.expand.specs.ExpandCall.{lent_of}
-use Rattle.expand.proofs.CallLaws.{number_is, ready, lendable, short, answered, refused}
+use Rattle.std.proofs.Common.{◌≡◌, sym, ◌<◌, length, arith}
+use Rattle.refusal.proofs.NumberedLaws.{err-is}
+use Rattle.expandmany.specs.Many.{Many}
+use Rattle.expandmany.specs.Calls.{many_lent}
+use Rattle.expand.specs.ExpandCall.{Lent, many_number}
+use Rattle.expand.specs.Lists.{lent_in}
+use Rattle.expand.proofs.CallLaws.{followed, ready, lendable, short, answered, refused}
+use Rattle.expand.proofs.expand_many_im_peaks_along_rt.Goals.{In_ok-check}
 use Rattle.expand.proofs.expand_many_im_peaks_along_rt.Goals as goal
 
-pub expand_lent-requires : goal.expand_lent-requires
-expand_lent-requires c = let g = c.args in
-    let none = number_is (many_of (run_of (index_of g.starts.now g.bins.now g.offsets.now g.scans.now g.readings.now) g.ids.now g.times.now g.scale) g.e g.list.now g.weights.now g.lengths.now g.first) (lent_of g.out.now g.raw.now g.smooth.now g.order.now) (length g.counts.now) ∙ sym c.many_number-no.ensures ∙ c.if-no-eq0.true in
-    let named : g.first < 4294967296 = omega (arith, c.ranges.first) in
-    (ready (many_of (run_of (index_of g.starts.now g.bins.now g.offsets.now g.scans.now g.readings.now) g.ids.now g.times.now g.scale) g.e g.list.now g.weights.now g.lengths.now g.first) (lent_of g.out.now g.raw.now g.smooth.now g.order.now) (length g.counts.now) none named, lendable (many_of (run_of (index_of g.starts.now g.bins.now g.offsets.now g.scans.now g.readings.now) g.ids.now g.times.now g.scale) g.e g.list.now g.weights.now g.lengths.now g.first) (lent_of g.out.now g.raw.now g.smooth.now g.order.now) (length g.counts.now) none, short (many_of (run_of (index_of g.starts.now g.bins.now g.offsets.now g.scans.now g.readings.now) g.ids.now g.times.now g.scale) g.e g.list.now g.weights.now g.lengths.now g.first) (lent_of g.out.now g.raw.now g.smooth.now g.order.now) (length g.counts.now) none)
+abbrev call : In_ok-check → Many
+call c = let g = c.args in many_lent g.run.now g.e g.peaks
 
-pub returns-then-no-eq0 : goal.returns-then-no-eq0
-returns-then-no-eq0 c = let g = c.args in
-    let none = number_is (many_of (run_of (index_of g.starts.now g.bins.now g.offsets.now g.scans.now g.readings.now) g.ids.now g.times.now g.scale) g.e g.list.now g.weights.now g.lengths.now g.first) (lent_of g.out.now g.raw.now g.smooth.now g.order.now) (length g.counts.now) ∙ sym c.many_number-no.ensures ∙ c.if-no-eq0.true in
-    let r = c.expand_lent in
-    answered (many_of (run_of (index_of g.starts.now g.bins.now g.offsets.now g.scans.now g.readings.now) g.ids.now g.times.now g.scale) g.e g.list.now g.weights.now g.lengths.now g.first) (lent_of g.out.now g.raw.now g.smooth.now g.order.now) (lent_of r.new.out r.new.raw r.new.smooth r.new.order) g.counts.now r.new.counts r.result none r.ensures.done
-    (record { raw = r.ensures.raw; smooth = r.ensures.smooth; order = r.ensures.order })
+abbrev lent : In_ok-check → Lent
+lent c = let g = c.args in lent_in g.lent.now
 
-pub returns : goal.returns
-returns c = let g = c.args in
-    refused (many_of (run_of (index_of g.starts.now g.bins.now g.offsets.now g.scans.now g.readings.now) g.ids.now g.times.now g.scale) g.e g.list.now g.weights.now g.lengths.now g.first) (lent_of g.out.now g.raw.now g.smooth.now g.order.now) g.counts.now c.many_number-no.result (c.many_number-no.ensures ∙ sym (number_is (many_of (run_of (index_of g.starts.now g.bins.now g.offsets.now g.scans.now g.readings.now) g.ids.now g.times.now g.scale) g.e g.list.now g.weights.now g.lengths.now g.first) (lent_of g.out.now g.raw.now g.smooth.now g.order.now) (length g.counts.now))) c.if-no-eq0.false
+none : (c : In_ok-check) → many_number (call c) (lent c) (length c.args.counts.now) ≡ 0
+none c = sym c.in_ok-check.ensures
+
+pub returns-in_err-check-clause-answer : goal.returns-in_err-check-clause-answer
+returns-in_err-check-clause-answer c = let g = c.args in
+    let m = many_lent g.run.now g.e g.peaks in
+    let was = lent_in g.lent.now in
+    rw (err-is c.from_residual.ensures.1) (refused m was g.counts.now c.in_err-check.field-0.0 c.in_err-check.ensures)
+
+pub of-index-requires : goal.of-index-requires
+of-index-requires c = let d = (goal.at.of-index-requires c).In_ok-check in (followed (call d) (lent d) (length d.args.counts.now) (none d)).index
+
+pub invariant_of-followed : goal.invariant_of-followed
+invariant_of-followed c = let d = (goal.at.invariant_of-followed c).In_ok-check in
+    record { followed = rw c.of-index.ensures (followed (call d) (lent d) (length d.args.counts.now) (none d)) }
+
+pub expand_lent-total-requires : goal.expand_lent-total-requires
+expand_lent-total-requires c = let d = (goal.at.expand_lent-total-requires c).In_ok-check in
+    let counts = length d.args.counts.now in
+    let named : d.args.peaks.first < 4294967296 = omega (arith, c.ranges.peaks) in (
+      rw c.of-index.ensures (ready (call d) (lent d) counts (none d) named),
+      lendable (call d) (lent d) counts (none d),
+      short (call d) (lent d) counts (none d),
+    )
+
+pub returns-clause-answer : goal.returns-clause-answer
+returns-clause-answer c = let d = (goal.at.returns-clause-answer c).In_ok-check in
+    let r = c.expand_lent-total in
+    answered (call d) (lent d) (lent_in r.new.lent) d.args.counts.now r.new.counts r.result (none d) (rw c.of-index.ensures at r.ensures.done)
+    r.ensures.past

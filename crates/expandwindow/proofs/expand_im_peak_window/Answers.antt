@@ -1,13 +1,13 @@
-use mathlib.Core.Path.{sym, ◌∙◌}
-use native.Mathlib.Omega.{arith}
+use Rattle.std.proofs.Common.{sym, arith}
 use Rattle.record.specs.Record.{peak_at}
 use Rattle.expandwindow.proofs.WindowLaws.{ready, sound-numbers}
 use Rattle.expandwindow.proofs.expand_im_peak_window.Goals as goal
 
 pub peak_at-p-requires : goal.peak_at-p-requires
-peak_at-p-requires c = omega (arith, (ready c.args.peak.now c.args.ids.now c.args.times.now c.args.e (sym c.number-no.ensures ∙ c.if-no-ne0.false)).one)
+peak_at-p-requires c = let s = c.args in omega (arith, (ready s.peak.now s.ids.now s.times.now s.e (sym c.in_ok-check.ensures)).one)
 
-pub window_of-w-requires : goal.window_of-w-requires
-window_of-w-requires c = let r = ready c.args.peak.now c.args.ids.now c.args.times.now c.args.e (sym c.number-no.ensures ∙ c.if-no-ne0.false) in
+pub window_of-requires : goal.window_of-requires
+window_of-requires c = let s = c.args in
+    let r = ready s.peak.now s.ids.now s.times.now s.e (sym c.in_ok-check.ensures) in
     let few = r.few in
-    (r.rise, omega arith, r.paired, rw c.peak_at-p.ensures (sound-numbers (peak_at c.args.peak.now 0) r.sound))
+    (r.rise, omega arith, r.paired, rw c.peak_at-p.ensures (sound-numbers (peak_at s.peak.now 0) r.sound))

@@ -1,20 +1,17 @@
-use mathlib.Core.Path.{sym, ◌∙◌}
-use native.Mathlib.Omega.{arith}
-use Rattle.fallback.proofs.FallbackNumberLaws.{Ready, ready}
-use lib.ListN.{length}
+use Rattle.std.proofs.Common.{length, sym, arith}
+use Rattle.fallback.proofs.FallbackNumberLaws.{ready}
 use Rattle.fallback.proofs.fallback_rt_peak_from_trace.Goals as goal
 
 pub peak_at-p-requires : goal.peak_at-p-requires
-peak_at-p-requires c =
-    let known : let s = c in Ready s.args.trace.now s.args.times.now s.args.peak.now (length s.args.out.now) = ready c.args.trace.now c.args.ids.now c.args.times.now c.args.peak.now c.args.frac (length c.args.out.now) (sym c.number-no.ensures ∙ c.if-no-eq0.true) in
-    omega (arith, known.record-long)
+peak_at-p-requires c = let s = c.args in
+    let k = ready s.trace.now s.ids.now s.times.now s.peak.now s.frac (length s.out.now) (sym c.in_ok-check.ensures) in
+    omega (arith, k.record-long)
 
 pub fallback_rt_peak_from_trace-f-requires : goal.fallback_rt_peak_from_trace-f-requires
-fallback_rt_peak_from_trace-f-requires c =
-    let known : let s = c in Ready s.args.trace.now s.args.times.now s.args.peak.now (length s.args.out.now) = ready c.args.trace.now c.args.ids.now c.args.times.now c.args.peak.now c.args.frac (length c.args.out.now) (sym c.number-no.ensures ∙ c.if-no-eq0.true) in
-    let k = known in (k.short, (λ h. omega (arith, h, k.times_long)))
+fallback_rt_peak_from_trace-f-requires c = let s = c.args in
+    let k = ready s.trace.now s.ids.now s.times.now s.peak.now s.frac (length s.out.now) (sym c.in_ok-check.ensures) in
+    (k.short, (λ h. omega (arith, h, k.times_long)))
 
 pub put_answer-requires : goal.put_answer-requires
-put_answer-requires c =
-    let known : let s = c in Ready s.args.trace.now s.args.times.now s.args.peak.now (length s.args.out.now) = ready c.args.trace.now c.args.ids.now c.args.times.now c.args.peak.now c.args.frac (length c.args.out.now) (sym c.number-no.ensures ∙ c.if-no-eq0.true) in
-    known.room-long
+put_answer-requires c = let s = c.args in
+    (ready s.trace.now s.ids.now s.times.now s.peak.now s.frac (length s.out.now) (sym c.in_ok-check.ensures)).room-long

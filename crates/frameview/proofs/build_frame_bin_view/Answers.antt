@@ -1,36 +1,37 @@
-use mathlib.Core.Path.{◌≡◌, refl, sym, ◌∙◌}
-use native.Mathlib.Omega.{arith}
+use Rattle.std.proofs.Common.{◌≡◌, refl, sym, arith}
+use Rattle.std.proofs.lemmas.Result.{err_from_is_err_and}
 use Rattle.frameview.specs.Answer.{Frame, Lent, frame_of, lent_of, number_for}
-use Rattle.frameview.proofs.Laws.{seen-number, accepted, answered, refused}
+use Rattle.frameview.proofs.Laws.{Accepted, seen-number, accepted, answered, refused}
+use Rattle.frameview.proofs.build_frame_bin_view.Goals.{In_ok-check}
 use Rattle.frameview.proofs.build_frame_bin_view.Goals as goal
 
-pub overflow_cast-base : goal.overflow_cast-base
-overflow_cast-base c =
-    let frame_at : Frame = frame_of c.args.tofs.now c.args.scans.now c.args.readings.now c.args.scale c.args.global_num_scans c.args.base in
-    let lent_at : Lent = lent_of c.args.out_bins.now c.args.out_offsets.now c.args.out_scans.now c.args.out_readings.now c.args.keys.now c.args.order.now c.args.spare.now in
-    let zero : number_for frame_at lent_at ≡ 0 = sym (seen-number frame_at lent_at c.number-no.result c.see-seen.result c.see-seen.ensures c.number-no.ensures) ∙ c.if-no-eq0.true in
-    let a = accepted frame_at lent_at zero in
-    record { fits = omega (arith, a.few) }
+abbrev frame_at : In_ok-check → Frame
+frame_at c = frame_of c.args.tofs.now c.args.scans.now c.args.readings.now c.args.scale c.args.global_num_scans c.args.base
 
-pub put_view-counts-requires : goal.put_view-counts-requires
-put_view-counts-requires c =
-    let frame_at : Frame = frame_of c.args.tofs.now c.args.scans.now c.args.readings.now c.args.scale c.args.global_num_scans c.args.base in
-    let lent_at : Lent = lent_of c.args.out_bins.now c.args.out_offsets.now c.args.out_scans.now c.args.out_readings.now c.args.keys.now c.args.order.now c.args.spare.now in
-    let zero : number_for frame_at lent_at ≡ 0 = sym (seen-number frame_at lent_at c.number-no.result c.see-seen.result c.see-seen.ensures c.number-no.ensures) ∙ c.if-no-eq0.true in
-    let a = accepted frame_at lent_at zero in
+abbrev lent_at : In_ok-check → Lent
+lent_at c = lent_of c.args.out_bins.now c.args.out_offsets.now c.args.out_scans.now c.args.out_readings.now c.args.keys.now c.args.order.now c.args.spare.now
+
+none : (c : In_ok-check) → number_for (frame_at c) (lent_at c) ≡ 0
+none c = sym (seen-number (frame_at c) (lent_at c) 0 _ c.see.ensures c.in_ok-check.ensures)
+
+holds : (c : In_ok-check) → Accepted (frame_at c) (lent_at c)
+holds c = accepted (frame_at c) (lent_at c) (none c)
+
+pub returns-in_err-check : goal.returns-in_err-check
+returns-in_err-check c =
+    let frame = frame_of c.args.tofs.now c.args.scans.now c.args.readings.now c.args.scale c.args.global_num_scans c.args.base in
+    let lent = lent_of c.args.out_bins.now c.args.out_offsets.now c.args.out_scans.now c.args.out_readings.now c.args.keys.now c.args.order.now c.args.spare.now in
+    let p = err_from_is_err_and c.from_residual.result c.from_residual.ensures.1 in
+    rw (p.1, p.2) (refused _ frame lent (seen-number frame lent _ _ c.see.ensures c.in_err-check.ensures))
+
+pub overflow_cast-base : goal.overflow_cast-base
+overflow_cast-base c = let a = holds (goal.at.overflow_cast-base c).In_ok-check in record { fits = omega (arith, a.few) }
+
+pub put_view-requires : goal.put_view-requires
+put_view-requires c = let a = holds (goal.at.put_view-requires c).In_ok-check in
     (a.sound, omega (arith, a.few), a.scans, a.readings, a.bins-room, a.offsets-room, a.scans-room, a.readings-room, omega (arith, a.few), a.keys-room, a.order-room, a.spare-room)
 
-pub returns-then-no-eq0 : goal.returns-then-no-eq0
-returns-then-no-eq0 c =
-    let frame_at : Frame = frame_of c.args.tofs.now c.args.scans.now c.args.readings.now c.args.scale c.args.global_num_scans c.args.base in
-    let lent_at : Lent = lent_of c.args.out_bins.now c.args.out_offsets.now c.args.out_scans.now c.args.out_readings.now c.args.keys.now c.args.order.now c.args.spare.now in
-    let zero : number_for frame_at lent_at ≡ 0 = sym (seen-number frame_at lent_at c.number-no.result c.see-seen.result c.see-seen.ensures c.number-no.ensures) ∙ c.if-no-eq0.true in
-    let p = c.put_view-counts in
-    let lent : Lent = lent_of p.new.out_bins p.new.out_offsets p.new.out_scans p.new.out_readings p.new.keys p.new.order p.new.spare in
-    answered frame_at lent_at lent c.args.base c.last_of.result p.result zero refl c.last_of.ensures p.ensures.viewed p.ensures.keys p.ensures.order p.ensures.spare
-
 pub returns : goal.returns
-returns c =
-    let frame_at : Frame = frame_of c.args.tofs.now c.args.scans.now c.args.readings.now c.args.scale c.args.global_num_scans c.args.base in
-    let lent_at : Lent = lent_of c.args.out_bins.now c.args.out_offsets.now c.args.out_scans.now c.args.out_readings.now c.args.keys.now c.args.order.now c.args.spare.now in
-    refused c.number-no.result frame_at lent_at (seen-number frame_at lent_at c.number-no.result c.see-seen.result c.see-seen.ensures c.number-no.ensures) c.if-no-eq0.false
+returns c = let at = (goal.at.returns c).In_ok-check in
+    let p = c.put_view in
+    answered (frame_at at) (lent_at at) _ c.args.base _ p.result (none at) refl c.saturating_sub.ensures p.ensures.viewed p.ensures.keys p.ensures.order p.ensures.spare

@@ -6,10 +6,7 @@ use lib.ListN.{length}
 use Rattle.tablejob.specs.Stands.{Within, Stands}
 use Rattle.peaktable.proofs.run.Given as goal
 
-abbrev pub invariant-loop-turns : goal.invariant-loop-turns
-invariant-loop-turns g l =
+abbrev pub invariant-loop : goal.invariant-loop
+invariant-loop g l =
     (length l.buf ≡ length l.initial.buf) × (length l.row ≡ length l.initial.row) × (length l.out ≡ length l.initial.out) × Within l.buf (length l.out) l.job × (l.job.goes_on ≡ true)
     × ((input : List ℕ) × (gone : List ℕ) × Stands input gone l.buf l.out l.job)
-
-abbrev pub decreases-loop-turns : goal.decreases-loop-turns
-decreases-loop-turns g l = l.turns

@@ -1,9 +1,8 @@
-use mathlib.Core.Path.{sym, ◌∙◌}
+use Rattle.std.proofs.Common.{length, sym}
 use Rattle.retention.proofs.Laws.{checked}
 use Rattle.retention.proofs.find_rt_peaks.Goals as goal
 
--- src/lib.rt:134:37
 pub list_accepted-requires : goal.list_accepted-requires
-list_accepted-requires c = let x = c.args in
-    let e = sym c.number-no.ensures ∙ c.if-no-eq0.true in
-    checked x.y_smoothed.now x.y_raw.now x.times.now x.min_prom x.min_sep_sec x.min_width_sec _ _ e
+list_accepted-requires c = let t = c.args.trace in
+    let a = c.args.asked in
+    checked t.smoothed.now t.raw.now t.times.now a.min_prom a.min_sep_sec a.min_width_sec (length c.args.out.now) (length c.args.scratch.now) (sym c.in_ok-check.ensures)

@@ -1,9 +1,10 @@
-use Rattle.table.proofs.Laws.{cr-none, cr-some, nonzero}
-use lib.ListN.{length}
+use Rattle.std.proofs.Common.{arith}
+use Rattle.std.proofs.lemmas.Grind.{common_steps}
+use Rattle.table.proofs.Laws.{cr-none, cr-some}
 use Rattle.table.proofs.ends_in_cr.Goals as goal
 
-pub returns-then-n-eq0 : goal.returns-then-n-eq0
-returns-then-n-eq0 c = cr-none c.args.text.now c.if-n-eq0.true
+pub returns-in-Some : goal.returns-in-Some
+returns-in-Some c = grind (arith, common_steps, cr-some c.args.text.now, c.in-Some.ensures.item)
 
-pub returns : goal.returns
-returns c = cr-some c.args.text.now (nonzero (length c.args.text.now) c.if-n-eq0.false)
+pub returns-in-None : goal.returns-in-None
+returns-in-None c = grind (arith, common_steps, cr-none c.args.text.now, c.in-None.ensures.item)

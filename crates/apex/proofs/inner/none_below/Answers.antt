@@ -11,13 +11,10 @@ use lib.ListN.{drop}
 use lib.Ieee.{lt}
 use Rattle.apex.proofs.inner.none_below.Goals as goal
 
-pub loop-i-preserved : goal.loop-i-preserved
-loop-i-preserved c = let y = c.args.y.now in
+pub loop-reading-preserved : goal.loop-reading-preserved
+loop-reading-preserved c = let y = c.args.y.now in
     let low = c.args.low in
-    let i = c.loop-i.i in (
-      omega arith,
-      c.loop-i.invariant.1 ∙ ap (λ (b : Bool). c.loop-i.none && b) (below_step low y i (omega arith)) ∙ and_assoc c.loop-i.none (not (lt (at y i) low)) (none_below low (drop (i + 1) y)),
-    )
+    let i = c.loop-reading.reading-index in c.loop-reading.invariant ∙ ap (λ (b : Bool). c.loop-reading.none && b) (below_step low y i (omega arith)) ∙ and_assoc c.loop-reading.none (not (lt (at y i) low)) (none_below low (drop (i + 1) y))
 
 pub returns : goal.returns
-returns c = sym (c.loop-i.invariant.1 ∙ ap (λ (b : Bool). c.loop-i.none && b) (below_end c.args.low c.args.y.now c.loop-i.i (omega arith)) ∙ and-true c.loop-i.none)
+returns c = sym (c.loop-reading.invariant ∙ ap (λ (b : Bool). c.loop-reading.none && b) (below_end c.args.low c.args.y.now c.loop-reading.reading-index (omega arith)) ∙ and-true c.loop-reading.none)

@@ -14,7 +14,7 @@ returns-then-i0-i1 c = let s = c.args in
     let p = c.cast_near-i0.ensures in
     let q = c.cast_near-i1.ensures in
     let e : cast_f s.x0 ≡ cast_f s.x1 = sym p ∙ c.if-i0-i1.true ∙ q in
-    rw (c.if-x1-x0.false, eq-eqb (cast_f s.x0) (cast_f s.x1) e) (simp (c.within_segment.ensures, c.smaller-s0.ensures, p))
+    rw (c.if-x1-x0.false, eq-eqb (cast_f s.x0) (cast_f s.x1) e) (simp (c.within_segment.ensures, c.min-s0.ensures, p))
 
 pub returns : goal.returns
 unfolding between
@@ -22,4 +22,4 @@ returns c = let s = c.args in
     let p = c.cast_near-i0.ensures in
     let q = c.cast_near-i1.ensures in
     let n : (cast_f s.x0 ≡ cast_f s.x1) → ⊥ = (λ e. c.if-i0-i1.false (p ∙ e ∙ sym q)) in
-    rw (c.if-x1-x0.false, ne_eqb (cast_f s.x0) (cast_f s.x1) n) (simp (c.across_segments.ensures, c.smaller-s0.ensures, p, q))
+    rw (c.if-x1-x0.false, ne_eqb (cast_f s.x0) (cast_f s.x1) n) (simp (c.across_segments.ensures, c.min-s0.ensures, p, q))

@@ -3,5 +3,5 @@ use Rattle.capi.proofs.StitchingLaws.{few-stitched}
 use Rattle.capi.proofs.stitching.rubzolena_stitch_im_peaks.Goals as goal
 
 pub overflow_mul-result : goal.overflow_mul-result
-overflow_mul-result c = let told = c.stitch_told-answer in
-    record { fits = omega (arith, few-stitched told.ensures c.in-Stitched.n c.in-Stitched.is, c.well_formed.0) }
+overflow_mul-result c = let told = c.stitch_told in
+    record { fits = omega (arith, few-stitched told.ensures c.in-Ok.n c.in-Ok.is, c.well_formed.0) }

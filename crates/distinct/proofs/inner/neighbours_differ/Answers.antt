@@ -1,27 +1,38 @@
 use mathlib.Core.Path.{sym, ◌∙◌, ap}
-use Prim.Native.Nat.{ℕ, ◌+◌}
-use native.Mathlib.Omega.{arith}
-use lib.ListN.{get_or, drop}
 use mathlib.Core.List.{map}
-use Rattle.distinct.specs.Distinct.{differ_from}
-use Rattle.distinct.proofs.Laws.{differ-none, differ-start, rest-next, rest-none, differ-cons, differ_same}
+use Prim.Native.Nat.{ℕ, ◌+◌, ◌<◌}
+use native.Mathlib.Omega.{arith}
+use native.Mathlib.Numerals.{add-one}
+use lib.ListN.{length, get_or, drop}
+use Rattle.distinct.specs.Distinct.{neighbours_differ, differ_from}
+use Rattle.distinct.proofs.Laws.{differ-none, rest-next, rest-none, differ-cons, differ_same}
 use Rattle.distinct.proofs.inner.neighbours_differ.Goals as goal
 
-pub returns-then-order-eq0 : goal.returns-then-order-eq0
-returns-then-order-eq0 c = sym (differ-none (λ p. get_or c.args.ids.now p 0) c.args.order.now c.if-order-eq0.true)
+pub returns-in_default : goal.returns-in_default
+returns-in_default c = sym (differ-none (λ p. get_or c.args.ids.now p 0) c.args.order.now c.in_default.ensures.cases)
 
-pub loop-k-init : goal.loop-k-init
-loop-k-init c = (omega arith, differ-start (λ p. get_or c.args.ids.now p 0) c.args.order.now (omega arith))
+pub loop-place-init : goal.loop-place-init
+unfolding neighbours_differ
+loop-place-init c = rw c.in-Some.ensures.cases.0
+
+pub bounds-ids-place : goal.bounds-ids-place
+bounds-ids-place c = let i = c.loop-place.place-index in
+    let split = c.in-Some.ensures.cases in
+    let next : i + 1 < length c.args.order.now = omega (arith, split.1, c.loop-place-test.true) in
+    let inside : get_or c.args.order.now (i + 1) 0 < length c.args.ids.now = c.requires (i + 1) next in
+    rw (split.0, add-one) at inside
 
 pub returns-then-last-next : goal.returns-then-last-next
 returns-then-last-next c = let g : ℕ → ℕ = λ p. get_or c.args.ids.now p 0 in
-    let k = c.loop-k.k in
-    sym (c.loop-k.invariant.1 ∙ ap (differ_from c.loop-k.last) (rest-next g c.args.order.now k (omega arith)) ∙ differ_same c.loop-k.last (g (get_or c.args.order.now k 0)) (map g (drop (k + 1) c.args.order.now)) c.if-last-next.true)
+    let rest = c.in-Some.rest.now in
+    let k = c.loop-place.place-index in
+    sym (c.loop-place.invariant ∙ ap (differ_from c.loop-place.last) (rest-next g rest k c.loop-place-test.true) ∙ differ_same c.loop-place.last (g (get_or rest k 0)) (map g (drop (k + 1) rest)) c.if-last-next.true)
 
-pub loop-k-preserved : goal.loop-k-preserved
-loop-k-preserved c = let g : ℕ → ℕ = λ p. get_or c.args.ids.now p 0 in
-    let k = c.loop-k.k in
-    (omega arith, c.loop-k.invariant.1 ∙ ap (differ_from c.loop-k.last) (rest-next g c.args.order.now k (omega arith)) ∙ differ-cons c.loop-k.last (g (get_or c.args.order.now k 0)) (map g (drop (k + 1) c.args.order.now)) c.if-last-next.false)
+pub loop-place-preserved : goal.loop-place-preserved
+loop-place-preserved c = let g : ℕ → ℕ = λ p. get_or c.args.ids.now p 0 in
+    let rest = c.in-Some.rest.now in
+    let k = c.loop-place.place-index in
+    c.loop-place.invariant ∙ ap (differ_from c.loop-place.last) (rest-next g rest k c.loop-place-test.true) ∙ differ-cons c.loop-place.last (g (get_or rest k 0)) (map g (drop (k + 1) rest)) c.if-last-next.false
 
 pub returns : goal.returns
-returns c = sym (c.loop-k.invariant.1 ∙ rest-none (λ p. get_or c.args.ids.now p 0) c.loop-k.last c.args.order.now c.loop-k.k (omega arith))
+returns c = sym (c.loop-place.invariant ∙ rest-none (λ p. get_or c.args.ids.now p 0) c.loop-place.last c.in-Some.rest.now c.loop-place.place-index (omega arith))

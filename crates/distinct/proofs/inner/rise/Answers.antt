@@ -4,4 +4,4 @@ use Rattle.distinct.proofs.inner.rise.Goals as goal
 
 pub returns : goal.returns
 returns c = let words = c.args.list.now in
-    let n = c.args.n in record { distinct = λ e. rises-distinct words n (λ j h. c.loop-k.invariant.1 j (omega arith)); order = λ e. rises-order words n (λ j h. c.loop-k.invariant.1 j (omega arith)) }
+    let n = c.args.n in record { distinct = λ e. rises-distinct words n (λ j h. c.loop-k.invariant j (omega arith)); order = λ e. rises-order words n (λ j h. c.loop-k.invariant j (omega arith)) }

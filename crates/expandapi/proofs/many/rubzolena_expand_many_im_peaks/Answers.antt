@@ -1,8 +1,7 @@
 use native.Mathlib.Omega.{arith}
-use borrow.Author.Rules.{rules}
 use Rattle.expandapi.proofs.ExpandWords.{many-fits}
 use Rattle.expandapi.proofs.many.rubzolena_expand_many_im_peaks.Goals as goal
 
 pub word_of-requires : goal.word_of-requires
 word_of-requires c = let f = c.expand_many_im_peaks_along_rt-answer in
-    many-fits f.ensures (search rules) (omega (arith, c.well_formed))
+    many-fits f.ensures.answer f.ensures.same.4 (omega (arith, c.well_formed))

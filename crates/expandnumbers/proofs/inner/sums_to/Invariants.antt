@@ -1,12 +1,7 @@
-use mathlib.Core.Path.{◌≡◌}
-use Prim.Native.Nat.{◌≤◌, ◌-◌}
+use Rattle.std.proofs.Common.{◌≡◌, drop}
 use lib.Dec.{eqb}
-use lib.ListN.{length, drop}
 use Rattle.expandnumbers.specs.ExpandNumber.{sum_of}
 use Rattle.expandnumbers.proofs.inner.sums_to.Given as goal
 
-abbrev pub invariant-loop-i : goal.invariant-loop-i
-invariant-loop-i l = (l.i ≤ length l.lengths) × (eqb (sum_of l.lengths) l.n ≡ eqb (sum_of (drop l.i l.lengths)) l.left)
-
-abbrev pub decreases-loop-i : goal.decreases-loop-i
-decreases-loop-i l = length l.lengths - l.i
+abbrev pub invariant-loop-k : goal.invariant-loop-k
+invariant-loop-k l = eqb (sum_of l.lengths) l.n ≡ eqb (sum_of (drop l.k-index l.lengths)) l.left

@@ -1,6 +1,6 @@
 use mathlib.Core.Path.{ap}
 use native.Mathlib.Omega.{arith}
-use Rattle.fallback.specs.declared.inner.Fallback.TheVariants.{Peak}
+use Rattle.std.specs.Prelude.{Some}
 use Rattle.fallback.specs.Fallback.{fallback_of}
 use Rattle.fallback.proofs.Laws.{top_within, none-of-none}
 use Rattle.fallback.proofs.inner.fallback_rt_peak_from_trace.Goals as goal
@@ -24,4 +24,4 @@ apex_of-apex-requires c = let i = top_within c.args.trace.now c.top_of-top.resul
 
 pub returns : goal.returns
 unfolding fallback_of
-returns c = rw (← c.top_of-top.ensures, c.if-top.false) (ap Peak (simp (c.rt_peak_of.ensures, c.bounds_of-bounds.ensures, c.apex_of-apex.ensures, c.span_of-span.ensures)))
+returns c = rw (← c.top_of-top.ensures, c.if-top.false) (ap Some (simp (c.rt_peak_of.ensures, c.bounds_of-bounds.ensures, c.apex_of-apex.ensures, c.span_of-span.ensures)))

@@ -3,4 +3,4 @@ use Rattle.fallback.proofs.inner.time_of.Goals as goal
 
 pub returns : goal.returns
 unfolding time_of
-returns c = simp (c.time_between.ensures, c.clamp.ensures, c.of_u32-2.ensures, c.of_u32.ensures, c.smaller-j.ensures)
+returns c = simp (c.time_between.ensures, c.clamp.ensures, c.of_u32-2.ensures, c.of_u32.ensures, c.min-j.ensures)

@@ -12,15 +12,15 @@ use Rattle.gridrows.proofs.rows.list_row.Goals as goal
 
 pub put_peaks-requires : goal.put_peaks-requires
 put_peaks-requires c = let x = (c).args in
-    let h : Says x.p x.weights.now x.z.now c.search_row-sought.new.y c.search_row-sought.new.found (Raw c.in-Raw.n) = rw c.in-Raw.is at c.search_row-sought.ensures.says in
-    ((c).requires.row, omega (arith, h.1.count, kept-count x.p x.z.now x.z.now), (kept x.p x.z.now x.z.now, h.1))
+    let h : Says x.call.now.params x.kernel.now.weights.now x.z.now c.search_row-sought.new.y c.search_row-sought.new.scratch.found.now (Raw c.in-Raw.n) = rw c.in-Raw.is at c.search_row-sought.ensures.done.says in
+    ((c).requires.row, omega (arith, h.1.count, kept-count x.call.now.params x.z.now x.z.now), (kept x.call.now.params x.z.now x.z.now, h.1))
 
 pub put_peaks-requires-in-Smoothed : goal.put_peaks-requires-in-Smoothed
 put_peaks-requires-in-Smoothed c = let x = (c).args in
-    let h : Says x.p x.weights.now x.z.now c.search_row-sought.new.y c.search_row-sought.new.found (Smoothed c.in-Smoothed.n) = rw c.in-Smoothed.is at c.search_row-sought.ensures.says in
-    let l : length (take (length x.z.now) _) ≡ length x.z.now = sym (ap length h.0) ∙ searched-length x.weights.now x.z.now in
-    (ready_for _ x.z.now x.axis.now x.first _ l (c).requires.row, omega (arith, h.1.count, kept-count x.p (take (length x.z.now) c.search_row-sought.new.y) x.z.now), (kept x.p (take (length x.z.now) c.search_row-sought.new.y) x.z.now, h.1))
+    let h : Says x.call.now.params x.kernel.now.weights.now x.z.now c.search_row-sought.new.y c.search_row-sought.new.scratch.found.now (Smoothed c.in-Smoothed.n) = rw c.in-Smoothed.is at c.search_row-sought.ensures.done.says in
+    let l : length (take (length x.z.now) _) ≡ length x.z.now = sym (ap length h.0) ∙ searched-length x.kernel.now.weights.now x.z.now in
+    (ready_for _ x.z.now x.call.now.scans.now x.first _ l (c).requires.row, omega (arith, h.1.count, kept-count x.call.now.params (take (length x.z.now) c.search_row-sought.new.y) x.z.now), (kept x.call.now.params (take (length x.z.now) c.search_row-sought.new.y) x.z.now, h.1))
 
-pub returns-in-Nothing : goal.returns-in-Nothing
-returns-in-Nothing c = let x = (c).args in
-    let h : Says x.p x.weights.now x.z.now c.search_row-sought.new.y c.search_row-sought.new.found Nothing = rw c.in-Nothing.is at c.search_row-sought.ensures.says in record { listed = listed-none as_words x.place x.bounds x.mobility.now x.p x.axis.now x.weights.now x.z.now x.first x.out.now h; past = c.search_row-sought.ensures.past }
+pub returns-in-Nothing-clause-listed : goal.returns-in-Nothing-clause-listed
+returns-in-Nothing-clause-listed c = let x = (c).args in
+    let h : Says x.call.now.params x.kernel.now.weights.now x.z.now c.search_row-sought.new.y c.search_row-sought.new.scratch.found.now Nothing = rw c.in-Nothing.is at c.search_row-sought.ensures.done.says in listed-none as_words x.place x.call.now.bounds x.call.now.mobility.now x.call.now.params x.call.now.scans.now x.kernel.now.weights.now x.z.now x.first x.out.now h

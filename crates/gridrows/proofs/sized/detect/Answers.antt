@@ -7,8 +7,8 @@ use Rattle.smoothing.proofs.Laws.{normalised-length}
 use Rattle.gridrows.proofs.Laws.{few-weights}
 use Rattle.gridrows.proofs.sized.detect.Goals as goal
 
-pub slice_bounds-u-end : goal.slice_bounds-u-end
-slice_bounds-u-end c = few-weights c.args.weights.now c.requires.0.weighed
+pub slice_bounds-divided-end : goal.slice_bounds-divided-end
+slice_bounds-divided-end c = few-weights c.args.weights.now c.requires.0.weighed
 
 pub slice_bounds-normalise-end : goal.slice_bounds-normalise-end
 slice_bounds-normalise-end c = sym (length-take-le (length c.args.weights.now) _ (few-weights c.args.weights.now c.requires.0.weighed))
@@ -16,22 +16,12 @@ slice_bounds-normalise-end c = sym (length-take-le (length c.args.weights.now) _
 pub normalise-requires : goal.normalise-requires
 normalise-requires c = sym (length-take-le (length c.args.weights.now) _ (few-weights c.args.weights.now c.requires.0.weighed))
 
-pub slice_bounds-u-end-then-cols-le1024 : goal.slice_bounds-u-end-then-cols-le1024
-slice_bounds-u-end-then-cols-le1024 c = let ws = c.args.weights.now in
+pub slice_bounds-divided-end-2 : goal.slice_bounds-divided-end-2
+slice_bounds-divided-end-2 c = let ws = c.args.weights.now in
     let e : length c.normalise.new.u ≡ length ws = ap length c.normalise.ensures ∙ normalised-length ws in
     rw (length-append, e) (le-add_right (length ws) _)
 
-pub slice_bounds-detect_in_1024-end : goal.slice_bounds-detect_in_1024-end
-slice_bounds-detect_in_1024-end c = let ws = c.args.weights.now in
-    let e : length c.normalise.new.u ≡ length ws = ap length c.normalise.ensures ∙ normalised-length ws in
-    sym (ap length (take_at c.normalise.new.u _ (length ws) e) ∙ e)
-
-pub slice_bounds-u-end-2 : goal.slice_bounds-u-end-2
-slice_bounds-u-end-2 c = let ws = c.args.weights.now in
-    let e : length c.normalise.new.u ≡ length ws = ap length c.normalise.ensures ∙ normalised-length ws in
-    rw (length-append, e) (le-add_right (length ws) _)
-
-pub slice_bounds-detect_in_16384-end : goal.slice_bounds-detect_in_16384-end
-slice_bounds-detect_in_16384-end c = let ws = c.args.weights.now in
+pub slice_bounds-kernel-end : goal.slice_bounds-kernel-end
+slice_bounds-kernel-end c = let ws = c.args.weights.now in
     let e : length c.normalise.new.u ≡ length ws = ap length c.normalise.ensures ∙ normalised-length ws in
     sym (ap length (take_at c.normalise.new.u _ (length ws) e) ∙ e)

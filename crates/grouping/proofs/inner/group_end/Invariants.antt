@@ -1,6 +1,6 @@
 use mathlib.Core.Path.{◌≡◌}
 use mathlib.Core.List.{List}
-use Prim.Native.Nat.{ℕ, ◌≤◌, ◌<◌, ◌-◌}
+use Prim.Native.Nat.{ℕ}
 use lib.ListN.{length}
 use Rattle.record.specs.declared.ImPeak1D.{ImPeak1D}
 use Rattle.grouping.specs.Walk.{Gathered}
@@ -8,8 +8,4 @@ use Rattle.grouping.proofs.Laws.{Begun}
 use Rattle.grouping.proofs.inner.group_end.Given as goal
 
 abbrev pub invariant-loop-k : goal.invariant-loop-k
-invariant-loop-k l =
-    ((ps : List ImPeak1D) (order : List ℕ) → length order ≡ l.n → Gathered ps l.sorted order → Begun l.rule l.params ps order l.i l.k l.bucket l.spans) × (l.i < l.k) × (l.k ≤ l.n)
-
-abbrev pub decreases-loop-k : goal.decreases-loop-k
-decreases-loop-k l = l.n - l.k
+invariant-loop-k l = (ps : List ImPeak1D) (order : List ℕ) → length order ≡ l.n → Gathered ps l.sorted order → Begun l.rule l.params ps order l.i l.k l.bucket l.spans

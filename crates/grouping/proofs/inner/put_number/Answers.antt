@@ -1,29 +1,26 @@
 use mathlib.Core.Path.{refl, ap}
 use mathlib.Core.List.{List}
-use Prim.Native.Nat.{ℕ, ◌<◌}
+use Prim.Native.Nat.{ℕ}
 use native.Mathlib.Omega.{arith}
-use lib.ListN.{length, get_or, set, length-set}
-use Rattle.grouping.specs.Walk.{part, numbered}
-use Rattle.grouping.proofs.Laws.{part_none, part-more, numbered-one}
+use native.Mathlib.Numerals.{add-one}
+use lib.ListN.{get_or, set, take}
+use lib.Seq.{take-suc}
 use Rattle.digits.proofs.SortedLaws.{at-index}
+use Rattle.grouping.specs.Walk.{numbered}
+use Rattle.grouping.proofs.Laws.{numbered-one}
 use Rattle.grouping.proofs.inner.put_number.Goals as goal
 
-pub loop-k-init : goal.loop-k-init
+pub loop-p-init : goal.loop-p-init
 unfolding numbered
-loop-k-init c = (rw (part_none c.args.order.now c.args.i) refl, omega arith, omega (arith, c.requires.0), refl)
+loop-p-init c = refl
 
-pub bounds-column-place : goal.bounds-column-place
-bounds-column-place c =
-    let in-column : get_or c.args.order.now c.loop-k.k 0 < length c.args.column.now = let order = c.args.order.now in
-    c.requires.2 (get_or order c.loop-k.k 0) (at-index order c.loop-k.k (omega (arith, c.requires.1))) in
-    omega (arith, in-column, c.loop-k.invariant)
+pub bounds-column-p : goal.bounds-column-p
+bounds-column-p c = let places = c.args.places.now in
+    let inside = c.requires (get_or places c.loop-p.p-index 0) (at-index places c.loop-p.p-index c.loop-p-test.true) in
+    omega (arith, inside, c.loop-p.auto.column)
 
-pub loop-k-preserved : goal.loop-k-preserved
-loop-k-preserved c = let order = c.args.order.now in
-    let k = c.loop-k.k in (
-      rw (part-more order c.args.i k c.loop-k.invariant.1 (omega (arith, c.requires.1)), numbered-one c.args.number (part order c.args.i k) (get_or order k 0) c.args.column.now)
-          (ap (λ (so : List ℕ). set so (get_or order k 0) c.args.number) c.loop-k.invariant.0),
-      omega (arith, c.loop-k.invariant),
-      omega arith,
-      simp length-set c.loop-k.invariant.3,
-    )
+pub loop-p-preserved : goal.loop-p-preserved
+loop-p-preserved c = let i = c.loop-p.p-index in
+    let places = c.args.places.now in
+    rw (add-one, take-suc places i 0 c.loop-p-test.true, numbered-one c.args.number (take i places) (get_or places i 0) c.args.column.now)
+    (ap (λ (so : List ℕ). set so (get_or places i 0) c.args.number) c.loop-p.invariant)

@@ -1,11 +1,7 @@
 use mathlib.Core.Path.{◌≡◌}
-use Prim.Native.Nat.{◌≤◌, ◌-◌}
-use lib.ListN.{length}
-use Rattle.grouping.specs.Walk.{part, numbered}
+use lib.ListN.{take}
+use Rattle.grouping.specs.Walk.{numbered}
 use Rattle.grouping.proofs.inner.put_number.Given as goal
 
-abbrev pub invariant-loop-k : goal.invariant-loop-k
-invariant-loop-k l = (l.column ≡ numbered l.number (part l.order l.i l.k) l.initial.column) × (l.i ≤ l.k) × (l.k ≤ l.end) × (length l.column ≡ length l.initial.column)
-
-abbrev pub decreases-loop-k : goal.decreases-loop-k
-decreases-loop-k l = l.end - l.k
+abbrev pub invariant-loop-p : goal.invariant-loop-p
+invariant-loop-p l = l.column ≡ numbered l.number (take l.p-index l.places) l.initial.column

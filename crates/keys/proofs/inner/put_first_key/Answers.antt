@@ -5,4 +5,4 @@ use Rattle.keys.proofs.inner.put_first_key.Goals as goal
 
 pub returns : goal.returns
 unfolding key_of
-returns c = rw c.bucket_of-b.ensures (sets-eq (key_of (First c.args.params) c.args.p) c.args.out.now 0 c.requires)
+returns c = rw (c.group_words.ensures, c.of-b.ensures) (sets-eq (key_of (First c.args.params) c.args.p) c.args.out.now 0 c.requires)

@@ -1,29 +1,20 @@
-use mathlib.Core.Path.{◌≡◌}
-use Prim.Native.Nat.{◌*◌}
+use mathlib.Core.Path.{◌≡◌, refl, sym, ◌∙◌}
+use Prim.Native.Nat.{◌+◌, ◌*◌}
 use native.Mathlib.Omega.{arith}
-use Rattle.keys.specs.Keys.{width_of}
+use native.Mathlib.Nat.{add-mul, zero-mul}
+use Rattle.keys.proofs.Laws.{table_none, table_step}
 use Rattle.keys.proofs.inner.put_keys.Goals as goal
 
-pub put_first-requires : goal.put_first-requires
-unfolding width_of
-put_first-requires c = (c.requires.0, rw c.in-First.is at c.requires.1)
+pub loop-k-init : goal.loop-k-init
+loop-k-init c = let w = c.width-width.result in
+    let none : 0 * w ≡ 0 = zero-mul w in rw none (table_none c.args.rule c.args.list.now c.args.table.now)
 
-pub put_second-requires : goal.put_second-requires
-unfolding width_of
-put_second-requires c = (c.requires.0, rw c.in-Second.is at c.requires.1)
+pub loop-k-preserved : goal.loop-k-preserved
+loop-k-preserved c = let k = c.loop-k.k in
+    let w = c.width-width.result in
+    let more : (k + 1) * w ≡ k * w + w = add-mul k 1 w ∙ omega arith in
+    table_step c.args.rule c.args.list.now c.loop-k.table c.args.table.now c.put.new.out k w (k * w) ((k + 1) * w) (sym c.width-width.ensures) refl more c.loop-k.invariant
+    (rw (c.peak_at.ensures, ← c.width-width.ensures) at c.put.ensures)
 
-pub put_ids-requires : goal.put_ids-requires
-unfolding width_of
-put_ids-requires c = let h = rw c.in-Identity.is at c.requires.1 in (c.requires.0, omega (arith, h))
-
-pub returns-in-First : goal.returns-in-First
-unfolding width_of
-returns-in-First c = rw c.in-First.is c.put_first.ensures
-
-pub returns-in-Second : goal.returns-in-Second
-unfolding width_of
-returns-in-Second c = rw c.in-Second.is c.put_second.ensures
-
-pub returns-in-Identity : goal.returns-in-Identity
-unfolding width_of
-returns-in-Identity c = let e : c.args.n * 1 ≡ c.args.n = omega arith in rw (c.in-Identity.is, e) c.put_ids.ensures
+pub returns : goal.returns
+returns c = let all : c.loop-k.k ≡ c.args.n = omega arith in rw (all, c.width-width.ensures) at c.loop-k.invariant

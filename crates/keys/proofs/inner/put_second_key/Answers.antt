@@ -5,4 +5,4 @@ use Rattle.keys.proofs.inner.put_second_key.Goals as goal
 
 pub returns : goal.returns
 unfolding key_of
-returns c = rw c.group_of-g.ensures (sets-eq (key_of Second c.args.p) c.args.out.now 0 c.requires)
+returns c = rw (c.group_words.ensures, c.group_of.ensures) (sets-eq (key_of Second c.args.p) c.args.out.now 0 c.requires)

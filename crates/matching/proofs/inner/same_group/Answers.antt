@@ -2,6 +2,8 @@ use mathlib.Core.Path.{◌≡◌, refl}
 use mathlib.Core.Bool.{Bool, true, false, ◌||◌}
 use borrow.Author.Tests.{eqb-true, eq-eqb}
 use lib.Dec.{eqb}
+use Rattle.std.specs.Prelude.{Option, Some, None, ℕ, nat_eq}
+use Rattle.std.specs.Option.{option_eq}
 use Rattle.refusal.proofs.Bools.{both}
 use Rattle.record.specs.declared.ImPeak1D.{ImPeak1D}
 use Rattle.matching.specs.declared.StitchParams.{StitchParams}
@@ -12,10 +14,14 @@ or-true : (b : Bool) → true ≡ (b || true)
 or-true true = refl
 or-true false = refl
 
+same-own : (g : Option ℕ) → option_eq nat_eq g g ≡ true
+same-own None = refl
+same-own (Some n) = eq-eqb n n refl
+
 -- the same words say the same window group
 same-words : (p : StitchParams) (a b : ImPeak1D) → a.flags ≡ b.flags → a.window_group ≡ b.window_group → true ≡ same_group p a b
 unfolding same_group group_of
-same-words p a b e f = rw (e, f, eq-eqb (group_of b).there (group_of b).there refl, eq-eqb (group_of b).number (group_of b).number refl) (or-true p.allow_cross_groups)
+same-words p a b e f = rw (e, f, same-own (group_of b)) (or-true p.allow_cross_groups)
 
 pub returns-then-a-b : goal.returns-then-a-b
 returns-then-a-b c = let same = both (eqb c.args.a.flags c.args.b.flags) c.if-a-b.true in
@@ -23,4 +29,4 @@ returns-then-a-b c = let same = both (eqb c.args.a.flags c.args.b.flags) c.if-a-
 
 pub returns : goal.returns
 unfolding same_group
-returns c = rw (c.is_same.ensures, c.group_of-2.ensures, c.group_of.ensures)
+returns c = rw (c.eq.ensures, c.group_of.ensures, c.group_of-2.ensures)

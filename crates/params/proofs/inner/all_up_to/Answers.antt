@@ -10,12 +10,11 @@ use lib.Dec.{leb}
 use lib.ListN.{get_or, drop}
 use Rattle.params.proofs.inner.all_up_to.Goals as goal
 
-pub loop-i-preserved : goal.loop-i-preserved
-loop-i-preserved c = let axis = c.args.axis.now in
-    let limit = c.args.limit in (
-      omega arith,
-      c.loop-i.invariant.1 ∙ ap (λ (b : Bool). c.loop-i.all && b) (up-to-step limit axis c.loop-i.i (omega arith)) ∙ and_assoc c.loop-i.all (leb (get_or axis c.loop-i.i 0) limit) (all_up_to limit (drop (c.loop-i.i + 1) axis)),
-    )
+pub loop-s-preserved : goal.loop-s-preserved
+loop-s-preserved c = let axis = c.args.axis.now in
+    let limit = c.args.limit in
+    let i = c.loop-s.s-index in
+    c.loop-s.invariant ∙ ap (λ (b : Bool). c.loop-s.all && b) (up-to-step limit axis i (omega arith)) ∙ and_assoc c.loop-s.all (leb (get_or axis i 0) limit) (all_up_to limit (drop (i + 1) axis))
 
 pub returns : goal.returns
-returns c = sym (c.loop-i.invariant.1 ∙ ap (λ (b : Bool). c.loop-i.all && b) (up-to-end c.args.limit c.args.axis.now c.loop-i.i (omega arith)) ∙ and-true c.loop-i.all)
+returns c = sym (c.loop-s.invariant ∙ ap (λ (b : Bool). c.loop-s.all && b) (up-to-end c.args.limit c.args.axis.now c.loop-s.s-index (omega arith)) ∙ and-true c.loop-s.all)

@@ -1,13 +1,10 @@
 use mathlib.Core.Path.{◌≡◌}
 use mathlib.Core.List.{◌++◌}
-use Prim.Native.Nat.{◌≤◌, ◌-◌, ◌*◌}
-use lib.ListN.{length, take, drop}
+use Prim.Native.Nat.{◌*◌}
+use lib.ListN.{take, drop}
 use Rattle.record.specs.Record.{size}
 use Rattle.passes.specs.Steps.{records_at}
 use Rattle.passes.proofs.inner.gather.Given as goal
 
 abbrev pub invariant-loop-i : goal.invariant-loop-i
-invariant-loop-i l = (l.i ≤ length l.order) × (length l.sorted ≡ length l.initial.sorted) × (l.sorted ≡ records_at l.list (take l.i l.order) ++ drop (l.i * size) l.initial.sorted)
-
-abbrev pub decreases-loop-i : goal.decreases-loop-i
-decreases-loop-i l = length l.order - l.i
+invariant-loop-i l = l.sorted ≡ records_at l.list (take l.i l.order) ++ drop (l.i * size) l.initial.sorted

@@ -25,7 +25,7 @@ put_keys-requires c = (c.requires.0, few (length c.args.order.now) (width_of c.a
 
 pub order_rows-requires : goal.order_rows-requires
 order_rows-requires c = let put = c.put_keys in
-    let w = c.width_of in
+    let w = c.width in
     let n = length c.args.order.now in
     let e : n * w.result + n * 4 ≤ length put.new.table = rw (w.ensures, put.auto.table) (few-led n (width_of c.args.rule) (length c.args.keys.now) (width-most c.args.rule) c.requires.2) in
     let list = c.args.list.now in (
@@ -39,7 +39,7 @@ order_rows-requires c = let put = c.put_keys in
 module _ (c : After-order_rows) where
   sorted-order : c.order_rows.new.order ≡ pass_order c.args.rule (peaks_of c.args.list.now (length c.args.order.now))
   sorted-order = let put = c.put_keys in
-      ordered c.args.list.now (length c.args.order.now) c.args.rule c.args.params put.new.table (drop (length c.args.order.now * width_of c.args.rule) c.args.keys.now) c.order_rows.new.order c.width_of.result put.ensures c.width_of.ensures c.order_rows.ensures.order
+      ordered c.args.list.now (length c.args.order.now) c.args.rule c.args.params put.new.table (drop (length c.args.order.now * width_of c.args.rule) c.args.keys.now) c.order_rows.new.order c.width.result put.ensures c.width.ensures c.order_rows.ensures.order
 
   as_many : length c.order_rows.new.order ≡ length c.args.order.now
   as_many = order-size c.args.list.now (length c.args.order.now) c.args.rule c.args.params c.order_rows.new.order sorted-order c.requires.0
@@ -47,7 +47,7 @@ module _ (c : After-order_rows) where
   -- what the table holds behind a record a peak is kept
   behind : drop (length c.args.order.now * size) c.order_rows.new.keys ≡ drop (length c.args.order.now * size) c.put_keys.new.table
   behind = let put = c.put_keys in
-      let w = c.width_of in
+      let w = c.width in
       let n = length c.args.order.now in
       later c.order_rows.new.keys put.new.table (n * w.result + n * 4) (n * size) (rw w.ensures (few-led n (width_of c.args.rule) (n * size) (width-most c.args.rule) (omega arith))) c.order_rows.ensures.behind
 

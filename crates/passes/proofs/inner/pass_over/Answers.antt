@@ -23,6 +23,6 @@ pass_from-requires c = let up = c.count_up in
       c.requires.3,
       c.requires.4,
       c.requires.5,
-      rw c.width_of.ensures (omega arith),
-      take_at up.new.order (drop n order) n l ∙ counted ∙ rw c.width_of.ensures (by-none c.args.rule ps),
+      rw c.width.ensures (omega arith),
+      take_at up.new.order (drop n order) n l ∙ counted ∙ rw c.width.ensures (by-none c.args.rule ps),
     )

@@ -1,10 +1,10 @@
 use mathlib.Core.Path.{◌≡◌, sym, ◌∙◌, ap, subst}
-use mathlib.Core.List.{◌++◌, map}
-use Prim.Native.Nat.{ℕ, ◌≤◌, ◌*◌}
+use mathlib.Core.List.{List, ◌++◌, map}
+use Prim.Native.Nat.{ℕ, ◌<◌, ◌≤◌, ◌*◌}
 use native.Mathlib.Omega.{arith}
 use lib.Dec.{lit≤}
 use lib.ListN.{length, get_or, drop, take}
-use lib.Seq.{length-take-le}
+use lib.Seq.{length-take-le, get_or-take}
 use Rattle.record.specs.Record.{size}
 use Rattle.peaklist.specs.PeakList.{peaks_of}
 use Rattle.peaklist.proofs.PeakListLaws.{peaks-length, peaks-fit}
@@ -68,10 +68,11 @@ hand_on-requires c =
     let b = c.pass_over-found in
     let ps = peaks_of c.args.list.now c.args.n in
     let l = peaks-length c.args.list.now c.args.n in
-    let number = first-number c.args.params ps a.result a.ensures.passed.counted a.new.column (drop (length ps) c.args.owners.now) a.ensures.passed.numbers in (
-      omega (arith, a.auto.column, c.requires.3),
-      λ k h. omega (arith, number k (omega (arith, h, l)), few, b.auto.column, c.requires.5),
-    )
+    let number = first-number c.args.params ps a.result a.ensures.passed.counted a.new.column (drop (length ps) c.args.lists.owners.now) a.ensures.passed.numbers in
+    let long : length (take c.args.n a.new.column) ≡ c.args.n = length-take-le c.args.n a.new.column (omega (arith, a.auto.column, c.requires.3)) in
+    λ k h.
+    let inside : k < c.args.n = omega (arith, h, long) in
+    omega (arith, get_or-take c.args.n a.new.column k 0 inside, number k (omega (arith, inside, l)), few, b.auto.column, c.requires.5)
 
 pub returns : goal.returns
 unfolding stitched
@@ -87,26 +88,26 @@ returns c =
     let l = peaks-length list n in
     let m = a.result in
     let made = a.new.out in
-    let rest = drop (m * size) c.args.merged.now in
+    let rest = drop (m * size) c.args.lists.merged.now in
     let hand = c.hand_on in
     let firsts = a.new.column in
     let seconds = b.new.column in
     let counted = a.ensures.passed.counted in
     let fit = groups-fit ps (first_groups params ps) (peaks-fit list n) in
     let read = second-read params ps m counted made rest a.ensures.passed.records fit in
-    let second : Passed Second params (first_peaks params ps) c.args.groups.now a.new.keys c.args.out.now b.result seconds b.new.keys b.new.out = rw read at b.ensures.passed in
+    let second : Passed Second params (first_peaks params ps) c.args.lists.groups.now a.new.keys c.args.lists.out.now b.result seconds b.new.keys b.new.out = rw read at b.ensures.passed in
     let many = as_many params ps m counted in
-    let back = drop m c.args.groups.now in
+    let back = drop m c.args.lists.groups.now in
     let numbers = rw many at second.numbers in record {
       stitched = record {
         counted = second.counted ∙ sym (stitched-length params ps);
         records = second.records;
         column =
-            subst (λ (j : ℕ). hand.new.owners ≡ map (λ k. get_or seconds k 0) (take j firsts) ++ drop j firsts) (sym l) hand.ensures
-            ∙ owned params ps m counted firsts (drop (length ps) c.args.owners.now) a.ensures.passed.numbers seconds back numbers;
+            subst (λ (j : ℕ). hand.new.owners ++ drop n firsts ≡ map (λ k. get_or seconds k 0) (take j firsts) ++ drop j firsts) (sym l) (ap (λ (x : List ℕ). x ++ drop n firsts) hand.ensures)
+            ∙ owned params ps m counted firsts (drop (length ps) c.args.lists.owners.now) a.ensures.passed.numbers seconds back numbers;
       };
       order = later b.new.order a.new.order m n few b.ensures.order ∙ a.ensures.order;
-      groups = later seconds c.args.groups.now m n few (ap (drop m) numbers ∙ column-rest (number_in (second_groups params ps)) m back);
+      groups = later seconds c.args.lists.groups.now m n few (ap (drop m) numbers ∙ column-rest (number_in (second_groups params ps)) m back);
       keys = later b.new.keys a.new.keys (m * size) (n * size) (omega (arith, few)) (rw many at second.rest) ∙ rw l at a.ensures.passed.rest;
-      merged = later made c.args.merged.now (m * size) (n * size) (omega (arith, few)) (made-rest params ps m counted made rest a.ensures.passed.records);
+      merged = later made c.args.lists.merged.now (m * size) (n * size) (omega (arith, few)) (made-rest params ps m counted made rest a.ensures.passed.records);
     }

@@ -7,26 +7,29 @@ use lib.ListN.{length}
 use Rattle.rowsearch.proofs.inner.find_apexes.Goals as goal
 
 pub find-m-requires : goal.find-m-requires
-find-m-requires c = let r = c.requires.room in
+find-m-requires c = let r = c.args.s.now.room in
+    let few = c.requires.room in
     record {
       plain = all_plain 0x7f80_0000 c.args.y.now (omega arith) c.requires.numbers c.all_fit.ensures;
       short = c.requires.short;
-      turns-long = r.turns-long;
-      bases-long = r.bases-long;
+      turns-long = omega (arith, r.turns-long);
+      bases-long = omega (arith, r.bases-long);
       stack-long = let l = r.found-long in omega arith;
     }
 
 pub keep_all-requires : goal.keep_all-requires
-keep_all-requires c = let s = c in
-    let few = few-apexes s.args.y.now _ _ c.find-m.result c.find-m.ensures in
+keep_all-requires c =
+    let few = few-apexes c.args.y.now _ _ c.find-m.result c.find-m.ensures in
     let same = c.find-m.auto.stack in
-    let l = s.requires.room.found-long in
-    (c.find-m.ensures, s.requires.short, omega (arith, s.requires.raw, s.requires.short), omega arith)
+    let l = c.args.s.now.room.found-long in
+    let r = c.requires.room in
+    (c.find-m.ensures, c.requires.short, omega (arith, c.requires.raw, c.requires.short), omega arith)
 
-pub returns : goal.returns
-returns c = let s = c in
-    let e = kept-of-row s.args.p s.args.y.now s.args.z.now _ _ c.find-m.result c.find-m.ensures s.requires.floor in
-    let few = kept-count s.args.p s.args.y.now s.args.z.now in
+pub returns-clause-done : goal.returns-clause-done
+returns-clause-done c =
+    let e = kept-of-row c.args.p c.args.y.now c.args.z.now _ _ c.find-m.result c.find-m.ensures c.requires.floor in
+    let few = kept-count c.args.p c.args.y.now c.args.z.now in
     let n = c.keep_all.ensures.0 ∙ ap length e in
-    let l = s.requires.room.found-long in
+    let l = c.args.s.now.room.found-long in
+    let r = c.requires.room in
     record { count = n; stand = rw e at c.keep_all.ensures.1; room = omega (arith, c.keep_all.auto.found, c.find-m.auto.stack) }

@@ -1,13 +1,14 @@
-use mathlib.Core.Path.{◌≡◌, refl, sym, ◌∙◌, ap}
+use mathlib.Core.Path.{refl, sym, ◌∙◌, ap}
 use mathlib.Core.Bool.{Bool, true, false, cond}
 use Rattle.refusal.proofs.Bools.{clash}
-use Rattle.rowsearch.specs.Qualifying.{width}
 use Prim.Native.Nat.{◌-◌, ◌+◌}
 use native.Mathlib.Omega.{arith}
-use lib.Dec.{leb}
 use Rattle.rowsearch.proofs.Laws.{wide_is, span-is, unkept, blocked, put-kept, too-low, too-narrow, wide_enough, rise-is, measured-is}
 use Rattle.spans.proofs.Laws.{memo-later}
 use Rattle.rowsearch.proofs.inner.keep_next.Goals.{then-near+else-y-i, else-near}
+use Rattle.spans.proofs.Laws.{none-narrow, some-wide}
+use Rattle.spans.specs.Span.{span_of}
+use Rattle.numeric.specs.Arith.{◌⊕◌, ◌⊗◌, ◌⊖◌, ½, at}
 use Rattle.rowsearch.proofs.inner.keep_next.Goals as goal
 
 pub returns-then-prominence-p : goal.returns-then-prominence-p
@@ -18,32 +19,27 @@ pub returns-then-y-i : goal.returns-then-y-i
 returns-then-y-i c = let s = c in
     (memo-later s.args.y.now s.args.z.now s.args.memo.now s.args.s.depth s.args.i (s.args.i + 1) (omega arith) s.requires.1, blocked s.args.p (sym c.is_near-near.ensures ∙ c.if-near.true) c.if-y-i.true)
 
-pub returns-then-seen : goal.returns-then-seen
-returns-then-seen c =
-    let width-seen : (v : Bool) → c.look_at-seen.result.wide ≡ v → leb c.args.p.min_width_scans (width c.args.y.now c.args.i) ≡ v = λ v h. let s = c in
-    wide_is s.args.p s.args.y.now s.args.z.now s.args.i s.args.base s.requires.0.base-is c.look_at-seen.result.wide v c.look_at-seen.ensures.wide h in
-    let w = c in let s = w in
-    let y = s.args.y.now in
-    let z = s.args.z.now in
-    let i = s.args.i in
-    let p = s.args.p in
-    let a = s.requires.0 in
-    let b = a.base-is in
-    let t = w.if-seen.true in (
-      w.look_at-seen.ensures.kept,
-      (λ ks k. rw w.put_measured.ensures.words
-          (put-kept p w.place_for-place.result w.look_at-seen.result.depth _
-          (measured-is y z i w.look_at-seen.result.span _ (span-is p y z i s.args.base b w.look_at-seen.result.span (w.look_at-seen.ensures.span t)) (rise-is p y i s.args.base b))
-          a.low a.high s.requires.2 w.put_measured.ensures.fit
-          (wide_enough p y i s.args.base b w.if-prominence-p.false (width-seen true t))
-          (λ h. elim c.if-near.branch [ then-near+else-y-i v ↦ v.if-y-i.false | else-near v ↦ clash c.is_near-near.result (c.is_near-near.ensures ∙ h) v.if-near.false ])
-          (w.place_for-place.ensures ∙ ap (λ (b : Bool). cond b (s.args.s.count - 1) s.args.s.count) w.is_near-near.ensures)
-          ks k)),
-    )
+pub returns-in_default : goal.returns-in_default
+returns-in_default c = let s = c.args in
+    let narrow = none-narrow s.p.min_width_scans (span_of s.y.now s.z.now (s.base ⊕ ½ ⊗ (at s.y.now s.i ⊖ s.base)) s.i) (sym c.look_at-seen.ensures.span ∙ c.in_default.is) in
+    (c.look_at-seen.ensures.kept, unkept s.p _ refl refl (too-narrow s.p s.y.now s.i s.base c.requires.0.base-is (wide_is s.p s.y.now s.z.now s.i s.base c.requires.0.base-is false false (sym narrow) refl)))
 
 pub returns : goal.returns
-returns c =
-    let width-seen : (v : Bool) → c.look_at-seen.result.wide ≡ v → leb c.args.p.min_width_scans (width c.args.y.now c.args.i) ≡ v = λ v h. let s = c in
-    wide_is s.args.p s.args.y.now s.args.z.now s.args.i s.args.base s.requires.0.base-is c.look_at-seen.result.wide v c.look_at-seen.ensures.wide h in
-    let s = c in
-    (c.look_at-seen.ensures.kept, unkept s.args.p _ refl refl (too-narrow s.args.p s.args.y.now s.args.i s.args.base s.requires.0.base-is (width-seen false c.if-seen.false)))
+returns c = let s = c.args in
+    let y = s.y.now in
+    let z = s.z.now in
+    let i = s.i in
+    let p = s.p in
+    let a = c.requires.0 in
+    let b = a.base-is in
+    let seen = some-wide p.min_width_scans (span_of y z (s.base ⊕ ½ ⊗ (at y i ⊖ s.base)) i) c.in-Some.a (sym c.look_at-seen.ensures.span ∙ c.in-Some.is) in (
+      c.look_at-seen.ensures.kept,
+      (λ ks k. rw c.put_measured.ensures.words
+          (put-kept p c.place_for-place.result c.look_at-seen.result.depth _
+          (measured-is y z i c.in-Some.a _ (span-is p y z i s.base b c.in-Some.a seen.1) (rise-is p y i s.base b))
+          a.low a.high c.requires.2 c.put_measured.ensures.fit
+          (wide_enough p y i s.base b c.if-prominence-p.false (wide_is p y z i s.base b true true (sym seen.0) refl))
+          (λ h. elim c.if-near.branch [ then-near+else-y-i v ↦ v.if-y-i.false | else-near v ↦ clash c.is_near-near.result (c.is_near-near.ensures ∙ h) v.if-near.false ])
+          (c.place_for-place.ensures ∙ ap (λ (b : Bool). cond b (s.s.count - 1) s.s.count) c.is_near-near.ensures)
+          ks k)),
+    )

@@ -1,105 +1,84 @@
-use mathlib.Core.Path.{◌≡◌, sym, ◌∙◌, ap}
-use mathlib.Core.List.{List}
-use Prim.Native.Nat.{ℕ, ◌<◌}
-use native.Mathlib.Omega.{arith}
-use lib.ListN.{length, get_or, take}
+use Rattle.std.proofs.Common.{◌<◌, sym, ◌∙◌, ap, length, get_or, arith}
+use lib.Seq.{length-take-le}
+use lib.ListN.{length-append, length-drop}
 use Rattle.digits.specs.Sorted.{row, up_to, sorted_by}
 use Rattle.digits.proofs.SortedLaws.{sort-length}
 use Rattle.chosen.specs.Chosen.{passing}
 use Rattle.rtplaces.specs.Places.{wide_at, by_time, chosen_places, with_shares, listed_places}
-use Rattle.rtplaces.proofs.Laws.{front_below, filled-front, some_below, some-few, chosen-places, chosen-places-few, shares-places, times-sorted}
+use Rattle.rtplaces.proofs.Laws.{below_all, filled-front, some_below, some-few, chosen-places, chosen-places-few, shares-places, times-sorted}
 use Rattle.rtsearch.proofs.inner.list_apexes.Goals as goal
 
--- src/inner.rt:271:9
 pub choose_places-c-requires : goal.choose_places-c-requires
-choose_places-c-requires c = let x = c.args in
-    let y = x.y.now in
-    let t = x.t.now in
-    let found = x.found.now in
-    let m = x.m in
-    let ready = c.requires.0 in
-    let test = wide_at found t (length y) x.min_width in
-    let W = passing test (up_to m) in
-    let k = c.keep_wide-k.result in
-    let order = c.keep_wide-k.new.out in
-    let n = c.keep_wide-k.ensures.count in
+choose_places-c-requires c = let s = c.args in
+    let y = s.trace.smoothed.now in
+    let t = s.trace.times.now in
+    let m = s.m in
+    let ready = c.requires.ready in
+    let room = c.requires.room in
+    let test = wide_at s.found.now t (length y) s.asked.min_width in
+    let ws = passing test (up_to m) in
+    let w = c.keep_wide-k in
     let few = some-few test m in
-    let front = filled-front W x.order.now order k n c.keep_wide-k.ensures.front in
-    let long = c.keep_wide-k.auto.out in
-    let room = ready.room in (
+    let most = c.requires.apexes.2 in
+    rw (filled-front ws s.order.now w.new.out w.result w.ensures.count w.ensures.front) (
       record {
-        inside = c.requires.1;
+        inside = c.requires.apexes.0;
         short = ready.short;
         times-short = omega (arith, ready.short, ready.times);
-        few = omega (arith, n, few);
-        turns-long = omega (arith, c.requires.3, room.turns-long);
-        bases-long = omega (arith, c.requires.3, room.bases-long);
-        order-long = omega (arith, n, few, c.requires.3, ready.order-long, long);
-        below = front_below (λ q. q < m) order W k front n (some_below test m);
+        few = few;
+        turns-long = omega (arith, most, room.turns-long);
+        bases-long = omega (arith, most, room.bases-long);
+        order-long = omega arith;
+        below = below_all m ws (some_below test m);
       },
       ready.numbers,
     )
 
--- src/inner.rt:272:5
 pub list_places-requires : goal.list_places-requires
-list_places-requires c = let p = c in let x = p.args in
-    let y = x.y.now in
-    let t = x.t.now in
-    let found = x.found.now in
-    let m = x.m in
-    let ready = p.requires.0 in
-    let test = wide_at found t (length y) x.min_width in
-    let W = passing test (up_to m) in
-    let k = p.keep_wide-k.result in
-    let order = p.keep_wide-k.new.out in
-    let n = p.keep_wide-k.ensures.count in
+list_places-requires c = let s = c.args in
+    let y = s.trace.smoothed.now in
+    let t = s.trace.times.now in
+    let m = s.m in
+    let ready = c.requires.ready in
+    let room = c.requires.room in
+    let test = wide_at s.found.now t (length y) s.asked.min_width in
+    let ws = passing test (up_to m) in
+    let w = c.keep_wide-k in
+    let front = filled-front ws s.order.now w.new.out w.result w.ensures.count w.ensures.front in
+    let r = c.choose_places-c in
+    let cs = chosen_places s.asked.sep y t s.found.now ws in
+    let chosen-front = r.ensures.front ∙ ap (chosen_places s.asked.sep y t s.found.now) front in
     let few = some-few test m in
-    let front = filled-front W x.order.now order k n p.keep_wide-k.ensures.front in
-    let long = p.keep_wide-k.auto.out in
-    let C = chosen_places x.sep y t found W in
-    let c-is = p.choose_places-c.ensures.count ∙ ap (λ (l : List ℕ). length (chosen_places x.sep y t found l)) front in
-    let turns = p.choose_places-c.new.turns in
-    let times = p.choose_places-c.new.bases in
-    let c-front = p.choose_places-c.ensures.front ∙ ap (chosen_places x.sep y t found) front in
-    let c-below = chosen-places (λ q. q < m) x.sep y t found W (some_below test m) in
-    let c-few = chosen-places-few x.sep y t found W in
-    let c-room = front_below (λ q. q < m) turns C p.choose_places-c.result c-front c-is c-below in
-    let times_long = p.choose_places-c.auto.bases in
-    let c-order = p.choose_places-c.auto.order in
-    let room = ready.room in (
-      omega (arith, ready.raw, p.requires.2, p.requires.3),
-      omega (arith, c-is, c-few, few, p.requires.3, room.turns-long, p.choose_places-c.auto.turns),
-      omega (arith, c-is, c-few, few, p.requires.3, ready.order-long, long, c-order),
-      (λ j h. let g = c-room j h in omega (arith, g, p.requires.3, room.bases-long, times_long)),
-      λ j h. (p.requires.1 (get_or turns j 0) (c-room j h)).room,
+    let chosen_few = chosen-places-few s.asked.sep y t s.found.now ws in
+    let below = chosen-places (λ q. q < m) s.asked.sep y t s.found.now ws (some_below test m) in
+    let most = c.requires.apexes.2 in
+    rw chosen-front (
+      omega (arith, ready.raw, c.requires.apexes.1, most),
+      simp (length-append, length-drop) (omega (arith, chosen_few, few, w.ensures.count, r.auto.order, w.auto.out, length-take-le w.result w.new.out (omega (arith, few, w.ensures.count, w.auto.out, ready.order-long, most)), ready.order-long, most)),
+      (λ j h. let g = below_all m cs below j h in omega (arith, g, most, room.bases-long, r.auto.bases)),
+      λ j h. (c.requires.apexes.0 (get_or cs j 0) (below_all m cs below j h)).room,
     )
 
--- src/inner.rt:254:1
 pub returns : goal.returns
 unfolding listed_places
-returns c = let f = c in let x = f.args in
-    let y = x.y.now in
-    let t = x.t.now in
-    let found = x.found.now in
-    let m = x.m in
-    let ready = f.requires.0 in
-    let test = wide_at found t (length y) x.min_width in
-    let W = passing test (up_to m) in
-    let k = f.keep_wide-k.result in
-    let order = f.keep_wide-k.new.out in
-    let n = f.keep_wide-k.ensures.count in
-    let few = some-few test m in
-    let front = filled-front W x.order.now order k n f.keep_wide-k.ensures.front in
-    let long = f.keep_wide-k.auto.out in
-    let C = chosen_places x.sep y t found W in
-    let c-is = f.choose_places-c.ensures.count ∙ ap (λ (l : List ℕ). length (chosen_places x.sep y t found l)) front in
-    let turns = f.choose_places-c.new.turns in
-    let times = f.choose_places-c.new.bases in
-    let c-front = f.choose_places-c.ensures.front ∙ ap (chosen_places x.sep y t found) front in
-    let c-below = chosen-places (λ q. q < m) x.sep y t found W (some_below test m) in
-    let c-few = chosen-places-few x.sep y t found W in
-    let c-room = front_below (λ q. q < m) turns C f.choose_places-c.result c-front c-is c-below in
-    let times_long = f.choose_places-c.auto.bases in
-    let e : with_shares x.z.now found (take f.choose_places-c.result turns) ≡ with_shares x.z.now found C = ap (with_shares x.z.now found) c-front in
-    let X = with_shares x.z.now found C in
-    let by = times-sorted y t found m times X f.choose_places-c.ensures.times (omega (arith, f.requires.3, ready.room.bases-long, times_long)) (shares-places (λ q. q < m) x.z.now found C c-below) in record { count = f.list_places.ensures.count ∙ ap length e ∙ sym (sort-length (by_time y t found) X); front = f.list_places.ensures.front ∙ ap (sorted_by (row times 1)) e ∙ by }
+returns c = let s = c.args in
+    let y = s.trace.smoothed.now in
+    let t = s.trace.times.now in
+    let z = s.trace.raw.now in
+    let found = s.found.now in
+    let m = s.m in
+    let test = wide_at found t (length y) s.asked.min_width in
+    let ws = passing test (up_to m) in
+    let w = c.keep_wide-k in
+    let front = filled-front ws s.order.now w.new.out w.result w.ensures.count w.ensures.front in
+    let r = c.choose_places-c in
+    let cs = chosen_places s.asked.sep y t found ws in
+    let below = chosen-places (λ q. q < m) s.asked.sep y t found ws (some_below test m) in
+    let e = ap (with_shares z found) (r.ensures.front ∙ ap (chosen_places s.asked.sep y t found) front) in
+    let xs = with_shares z found cs in
+    let times = r.new.bases in
+    let by = times-sorted y t found m times xs r.ensures.times (omega (arith, c.requires.apexes.2, c.requires.room.bases-long, r.auto.bases)) (shares-places (λ q. q < m) z found cs below) in
+    record {
+      count = c.list_places.ensures.count ∙ ap length e ∙ sym (sort-length (by_time y t found) xs);
+      front = c.list_places.ensures.front ∙ ap (sorted_by (row times 1)) e ∙ by;
+    }

@@ -1,5 +1,5 @@
 use mathlib.Core.Path.{◌≡◌}
-use Prim.Native.Nat.{ℕ, ◌≤◌, ◌<◌, ◌-◌, ◌+◌, ◌/◌}
+use Prim.Native.Nat.{ℕ, ◌≤◌, ◌<◌, ◌+◌, ◌/◌}
 use lib.ListN.{length}
 use Rattle.smoothing.specs.Smoothing.{weighted, met}
 use Rattle.smoothing.proofs.inner.end_at.Given as goal
@@ -9,6 +9,3 @@ invariant-loop-k l =
     (l.left ≤ l.k) × (l.k ≤ l.right) × (length l.u / 2 ≤ l.i + l.left) × (l.right ≤ length l.u) × (l.i + l.right ≤ length l.src + length l.u / 2)
     × ((j : ℕ) → l.right ≤ j → j < length l.u → length l.src + length l.u / 2 ≤ l.i + j)
     × (l.sum ≡ weighted l.u l.src l.i l.k) × (l.norm ≡ met l.u (length l.src) l.i l.k)
-
-abbrev pub decreases-loop-k : goal.decreases-loop-k
-decreases-loop-k l = l.right - l.k

@@ -11,11 +11,11 @@ use native.Mathlib.Omega.{arith}
 use lib.ListN.{drop}
 use Rattle.smoothrow.proofs.inner.all_zero.Goals as goal
 
-pub loop-i-preserved : goal.loop-i-preserved
-loop-i-preserved c = let z = c.args.z.now in
-    let i = c.loop-i.i in
-    let all = c.loop-i.all in
-    (omega arith, c.loop-i.invariant.1 ∙ ap (λ (b : Bool). all && b) (zeros-step z i (omega arith)) ∙ and_assoc all (eq (at z i) 𝟎) (all_zero (drop (i + 1) z)))
+pub loop-reading-preserved : goal.loop-reading-preserved
+loop-reading-preserved c = let z = c.args.z.now in
+    let i = c.loop-reading.reading-index in
+    let all = c.loop-reading.all in
+    (c.loop-reading.invariant ∙ ap (λ (b : Bool). all && b) (zeros-step z i (omega arith)) ∙ and_assoc all (eq (at z i) 𝟎) (all_zero (drop (i + 1) z)))
 
 pub returns : goal.returns
-returns c = sym (c.loop-i.invariant.1 ∙ ap (λ (b : Bool). c.loop-i.all && b) (zeros-end c.args.z.now c.loop-i.i (omega arith)) ∙ and-true c.loop-i.all)
+returns c = sym (c.loop-reading.invariant ∙ ap (λ (b : Bool). c.loop-reading.all && b) (zeros-end c.args.z.now c.loop-reading.reading-index (omega arith)) ∙ and-true c.loop-reading.all)

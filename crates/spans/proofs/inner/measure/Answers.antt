@@ -1,6 +1,7 @@
 use Rattle.spans.proofs.Laws.{reach-left, reach-right, reach-width, memo-later, memo-more, looked, looked-narrow, looked-wide}
 use Prim.Native.Nat.{◌+◌}
 use native.Mathlib.Omega.{arith}
+use Rattle.spans.specs.Span.{span_of}
 use Rattle.spans.proofs.inner.measure.Goals as goal
 
 pub keep-requires : goal.keep-requires
@@ -17,12 +18,12 @@ returns-then-depth-memo c = let y = c.args.y.now in
     let e = c.reach_of-r.ensures in
     looked y z h i c.args.least (c.args.d + 1) c.span_of-s.result c.keep.new.memo
     (memo-more y z h i _ _ c.args.d _ c.args.memo.now c.keep.new.memo (omega arith) (omega arith) c.keep.auto.memo (reach-left y z h i _ e) (reach-right y z h i _ e) (c.is_long.ensures c.if-is_long.true) c.span_of-s.ensures c.keep.ensures c.requires.3)
-    c.span_of-s.ensures
+    c.if_wide.ensures c.span_of-s.ensures
 
 pub returns-then-r-least : goal.returns-then-r-least
 returns-then-r-least c = let y = c.args.y.now in
     let z = c.args.z.now in
-    looked-narrow y z c.args.h c.args.i c.args.least c.args.d _ c.args.memo.now (memo-later y z c.args.memo.now c.args.d c.args.i (c.args.i + 1) (omega arith) c.requires.3) _ (reach-width y z c.args.h c.args.i _ c.reach_of-r.ensures) c.if-r-least.true
+    looked-narrow y z c.args.h c.args.i c.args.least c.args.d (span_of y z c.args.h c.args.i) c.args.memo.now (memo-later y z c.args.memo.now c.args.d c.args.i (c.args.i + 1) (omega arith) c.requires.3) _ (reach-width y z c.args.h c.args.i _ c.reach_of-r.ensures) c.if-r-least.true
 
 pub returns : goal.returns
 returns c = let y = c.args.y.now in

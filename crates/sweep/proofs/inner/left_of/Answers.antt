@@ -23,6 +23,6 @@ returns c = let mark = mark_at c.args.y.now c.args.turns.now in
     let t = c.args.depth - 1 in
     let e : c.args.depth ≡ suc t = omega arith in
     let same : height_at mark stack t ≡ c.args.h = omega (arith, c.mark.ensures, c.requires.3 t (omega arith)) in
-    c.lower.ensures
+    c.min.ensures
     ∙ equal-left mark c.args.m c.args.k c.args.bases.now stack t c.args.low c.args.low c.args.h (rw e at c.requires.2) same
     ∙ ap (stack_low mark stack c.args.h c.args.low) (sym e)

@@ -4,9 +4,6 @@ use Rattle.sweep.specs.Lows.{mark_at}
 use Rattle.sweep.specs.Stack.{Stacked, Passes}
 use Rattle.sweep.proofs.inner.pop.Given as goal
 
-abbrev pub invariant-loop-d : goal.invariant-loop-d
-invariant-loop-d l =
-    (length l.bases ≡ length l.initial.bases) × Stacked (mark_at l.y l.turns) l.m l.k l.bases l.stack l.d l.least × Passes (mark_at l.y l.turns) l.k l.h l.stack l.low l.d l.least
-
-abbrev pub decreases-loop-d : goal.decreases-loop-d
-decreases-loop-d l = l.d
+abbrev pub invariant-loop-t : goal.invariant-loop-t
+invariant-loop-t l =
+    (length l.bases ≡ length l.initial.bases) × Stacked (mark_at l.y l.turns) l.m l.k l.bases l.stack l.t l.least × Passes (mark_at l.y l.turns) l.k l.h l.stack l.low l.t l.least

@@ -27,6 +27,6 @@ loop-out-preserved c =
     let p = c.put_next-f in
     (p.auto.row ∙ l.invariant.0, p.auto.out ∙ l.invariant.1, not-false _ c.if-not-f.false, p.ensures.put c.args.s c.args.out.now l.invariant.3, refl)
 
-pub returns-in-Missing : goal.returns-in-Missing
-returns-in-Missing c =
-    let l = c.loop-out in record { put = l.invariant.3; through = λ on room. lf-missing l.f.from (drop l.f.from c.args.bytes.now) (sym l.invariant.4 ∙ sym c.next_line-end.ensures ∙ c.in-Missing.is) }
+pub returns-in_default : goal.returns-in_default
+returns-in_default c =
+    let l = c.loop-out in record { put = l.invariant.3; through = λ on room. lf-missing l.f.from (drop l.f.from c.args.bytes.now) (sym l.invariant.4 ∙ sym c.next_line.ensures ∙ c.in_default.is) }

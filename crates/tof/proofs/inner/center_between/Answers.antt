@@ -42,10 +42,10 @@ overflow_add-i c = let n = bins-held c.args.s c.requires.0 in
 
 pub center_of-requires-3 : goal.center_of-requires-3
 center_of-requires-3 c = let n = bins-held c.args.s c.requires.0 in
-    let e = c.lower.ensures in
+    let e = c.min.ensures in
     (c.requires.0, omega arith)
 
 pub returns : goal.returns
 unfolding center_at_f
 returns c = rw (c.if-mu.false, ← c.of_u32.ensures, c.if-mu-of_u32.false)
-    (simp (c.center_of-3.ensures, c.lower.ensures, c.center_of-2.ensures, c.of_u32-2.ensures, c.cast_sat-i.ensures))
+    (simp (c.center_of-3.ensures, c.min.ensures, c.center_of-2.ensures, c.of_u32-2.ensures, c.cast_sat-i.ensures))

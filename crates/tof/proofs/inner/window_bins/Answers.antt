@@ -6,27 +6,27 @@ use Rattle.tof.proofs.inner.window_bins.Goals as goal
 
 pub returns-then-hi-s : goal.returns-then-hi-s
 unfolding window_bins
-returns-then-hi-s c = rw (← c.lower-lo.ensures, ← c.higher-hi.ensures, le-leb _ _ c.if-hi-s.true)
+returns-then-hi-s c = rw (← c.min-lo.ensures, ← c.max-hi.ensures, le-leb _ _ c.if-hi-s.true)
 
 pub overflow_sub-last : goal.overflow_sub-last
 overflow_sub-last c = (bins-held c.args.s c.requires).0
 
 pub returns-then-lo-s : goal.returns-then-lo-s
 unfolding window_bins
-returns-then-lo-s c = rw (← c.lower-lo.ensures, ← c.higher-hi.ensures, lt-leb _ _ c.if-hi-s.false, le-leb _ _ c.if-lo-s.true)
+returns-then-lo-s c = rw (← c.min-lo.ensures, ← c.max-hi.ensures, lt-leb _ _ c.if-hi-s.false, le-leb _ _ c.if-lo-s.true)
 
 pub bin_of-requires : goal.bin_of-requires
 bin_of-requires c = let p = plain c.args.s c.requires in
-    let e = c.higher.ensures in
+    let e = c.max.ensures in
     (omega arith, omega arith)
 
 pub bin_of-requires-2 : goal.bin_of-requires-2
 bin_of-requires-2 c = let p = plain c.args.s c.requires in
-    let e = c.lower.ensures in
+    let e = c.min.ensures in
     let l = c.if-hi-s.false in
     (omega arith, omega arith)
 
 pub returns : goal.returns
 unfolding window_bins
-returns c = rw (← c.lower-lo.ensures, ← c.higher-hi.ensures, lt-leb _ _ c.if-hi-s.false, lt-leb _ _ c.if-lo-s.false)
-    (simp (c.bin_of-2.ensures, c.lower.ensures, c.bin_of.ensures, c.higher.ensures))
+returns c = rw (← c.min-lo.ensures, ← c.max-hi.ensures, lt-leb _ _ c.if-hi-s.false, lt-leb _ _ c.if-lo-s.false)
+    (simp (c.bin_of-2.ensures, c.min.ensures, c.bin_of.ensures, c.max.ensures))

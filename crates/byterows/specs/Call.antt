@@ -1,0 +1,10 @@
+-- The grid that a call in bytes hands in, with weights.
+use Rattle.std.specs.Prelude.{List, Float}
+use Rattle.gridrows.specs.Grid.{Grid}
+use Rattle.gridrows.specs.Steps.{grid_of}
+use Rattle.wordbytes.specs.Bytes.{words_of, floats_of}
+use Rattle.byterows.specs.declared.call.ByteCall.{ByteCall}
+
+abbrev pub bytes_in : ByteCall → List Float → Grid
+bytes_in c weights =
+    grid_of c.cols (floats_of c.used.now) (words_of c.scans.now) c.scale c.bounds (floats_of c.mobility.now) c.params weights c.first

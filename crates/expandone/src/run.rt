@@ -1,0 +1,27 @@
+// Runs over which mobility peaks are followed.
+ghost use Rattle.expandpeak.specs.Expanded.{run_of};
+ghost use Rattle.expandone.specs.Steps.{Followed};
+
+use frameindex::{CheckedIndex, FrameIndex};
+use rtparams::RtExpandParams;
+use tof::TofScale;
+
+// A run as it is lent: the index of its points, the number and the time of each frame, and the scale.
+#[derive(Clone, Copy)]
+pub struct Run<'a> {
+    pub index: &'a FrameIndex<'a>,
+    pub ids: &'a [u32],
+    pub times: &'a [f32],
+    pub scale: TofScale,
+}
+
+// A run and parameters that no number refuses.
+#[derive(Clone, Copy)]
+pub struct FollowedRun<'a> {
+    pub index: &'a CheckedIndex<'a>,
+    pub ids: &'a [u32],
+    pub times: &'a [f32],
+    pub scale: TofScale,
+    pub params: RtExpandParams,
+    pub ghost followed: { Followed (run_of index.now ids.now times.now scale) params },
+}

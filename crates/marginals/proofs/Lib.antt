@@ -1,3 +1,0 @@
--- The proofs of what specs/ states, and what the proofs of functions cite.
-pub mod MarginalLaws
-pub mod Laws

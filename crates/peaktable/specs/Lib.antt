@@ -1,2 +1,0 @@
--- What the contracts of `peaktable` cite.
-pub mod Reads

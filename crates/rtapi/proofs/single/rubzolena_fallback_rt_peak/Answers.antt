@@ -1,0 +1,7 @@
+use Rattle.std.proofs.Common.{length}
+use Rattle.rtapi.proofs.RtWords.{fallback-fits}
+use Rattle.rtapi.proofs.single.rubzolena_fallback_rt_peak.Goals as goal
+
+pub word_of-requires : goal.word_of-requires
+word_of-requires c = let s = c.args in
+    rw c.fallback_rt_peak_from_trace-answer.ensures.answer (fallback-fits s.trace.now s.ids.now s.times.now s.peak.now s.frac s.first (length s.out.now))
