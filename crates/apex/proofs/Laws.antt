@@ -1,13 +1,13 @@
 -- One step of each walk from an apex, as the code's loops take it.
 use mathlib.Core.Path.{◌≡◌, refl, sym, ap, ◌∙◌}
-use mathlib.Core.Bool.{Bool, true, false, cond, not, ◌&&◌}
+use mathlib.Core.Bool.{Bool, true, false, cond, not}
 use mathlib.Core.List.{List, [], ◌∷◌}
 use mathlib.Core.Logic.{⊎_elim}
 use Prim.Native.Nat.{ℕ, zero, suc, ◌≤◌, ◌<◌, ◌-◌, ◌+◌}
 use native.Mathlib.Omega.{arith}
 use native.Mathlib.Nat.{add-zero, eq-or-lt_of_le}
 use native.Mathlib.Numerals.{add-one, sub-one}
-use lib.ListN.{length, drop, drop_of_length-le}
+use lib.ListN.{length, drop}
 use lib.Seq.{drop-cons}
 use lib.Ieee.{Float, nan, inf, fin, lt, le, is_nan}
 use Rattle.numeric.specs.Arith.{at}
@@ -47,15 +47,6 @@ pub walk-stop : (apex m n v : Float) (xs vs : List Float) → xs ≡ v ∷ vs �
     → least m (up_to_higher apex xs) ≡ n
 unfolding least up_to_higher
 walk-stop apex m n v xs vs e d h = rw (e, h, d)
-
--- ---- the ground
-pub below_step : (low : Float) (y : List Float) (i : ℕ) → i < length y → none_below low (drop i y) ≡ (not (lt (at y i) low) && none_below low (drop (i + 1) y))
-unfolding none_below
-below_step low y i h = rw (right-cons y i)
-
-pub below_end : (low : Float) (y : List Float) (i : ℕ) → length y ≤ i → none_below low (drop i y) ≡ true
-unfolding none_below
-below_end low y i h = rw (drop_of_length-le y h)
 
 -- no float is below minus infinity
 pub none-below-all : (y : List Float) → none_below (inf true) y ≡ true

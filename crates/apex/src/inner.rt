@@ -19,6 +19,7 @@ pub struct Low {
     pub steps: usize,
 }
 
+#[tactic(auto, unfolding(crate::specs::Apex::is_candidate))]
 pub fn is_candidate(y: &[f32], i: usize) -> bool
     requires { (0 < i) × (i + 1 < length y.now) }
     ensures { result ≡ is_candidate y.now i }
@@ -27,6 +28,7 @@ pub fn is_candidate(y: &[f32], i: usize) -> bool
 }
 
 // Whether no reading is below a height.
+#[tactic(auto, unfolding(crate::specs::Apex::none_below))]
 fn none_below(y: &[f32], low: f32) -> bool
     ensures { result ≡ none_below low y.now }
 {
@@ -102,6 +104,7 @@ fn right_least(y: &[f32], left: f32, i: usize) -> Low
 }
 
 // The baseline of an apex, by a walk to both sides.
+#[tactic(auto, unfolding(crate::specs::Apex::baseline))]
 pub fn walk_of(y: &[f32], ground: f32, i: usize) -> Low
     requires { (i < length y.now) × Ground ground y.now }
     ensures steps { result.steps ≤ length y.now }
@@ -116,6 +119,7 @@ pub fn walk_of(y: &[f32], ground: f32, i: usize) -> Low
 }
 
 // How far an apex rises above its baseline.
+#[tactic(auto, unfolding(crate::specs::Apex::prominence, crate::specs::Apex::half_height))]
 pub fn rise_from(y: &[f32], base: f32, i: usize) -> Rise
     requires { (i < length y.now) × (base ≡ baseline y.now i) }
     ensures { result ≡ rise_of y.now i }
@@ -134,71 +138,85 @@ pub fn rise_of(y: &[f32], ground: f32, i: usize) -> Rise
     rise_from(y, walk_of(y, ground, i).height, i)
 }
 
-// The nearest sample, from i on to the left, that is not above the height h; the first one if there is none.
-pub fn left_foot(y: &[f32], h: f32, i: usize) -> usize
-    requires { i < length y.now }
-    ensures { result ≡ left_foot y.now h i }
-{
-    let mut w = i;
-    // A `while`: the index where it ends is the answer, which a chain of `rev`, `position` and `map_or` says in more words.
-    while w > 0 && y[w] > h {
-        w -= 1;
-    }
-    w
-}
-
-// The same to the right.
-pub fn right_foot(y: &[f32], h: f32, i: usize) -> usize
-    requires { i < length y.now }
-    ensures { result ≡ right_foot y.now h i }
-{
-    let mut w = i;
-    // A `while`, as on the left.
-    while w + 1 < y.len() && y[w] > h {
-        w += 1;
-    }
-    w
-}
-
+#[tactic(auto, unfolding(crate::specs::Apex::part_way))]
 fn share_of(h: f32, a: f32, b: f32) -> f32
     ensures { result ≡ part_way h a b }
 {
     if b != a { (h - a) / (b - a) } else { 0.0 }
 }
 
-// Where the row crosses the height h left of i, where the foot w is known.
-pub fn left_crossing_from(y: &[f32], h: f32, i: usize, w: usize) -> f32
-    requires { (i < length y.now) × (length y.now ≤ exact_index) × (w ≡ left_foot y.now h i) }
-    ensures { result ≡ left_crossing y.now h i }
-{
-    let x = numeric::inner::of_index(w);
-    if w < i {
-        return x + share_of(h, y[w], y[w + 1]);
+// A place in a row, and a height.
+#[derive(Clone, Copy)]
+pub struct Level<'a> {
+    pub y: &'a [f32],
+    pub h: f32,
+    pub i: usize,
+    pub ghost inside: { i < length y.now },
+}
+
+impl<'a> Level<'a> {
+    // The nearest sample, from i on to the left, that is not above the height; the first one if there is none.
+    pub fn left_foot(self) -> usize
+        ensures { result ≡ left_foot self.entry.y.now self.entry.h self.entry.i }
+    {
+        let Level { y, h, i } = self;
+        let mut w = i;
+        // A `while`: the index where it ends is the answer, which a chain of `rev`, `position` and `map_or` says in more words.
+        while w > 0 && y[w] > h {
+            w -= 1;
+        }
+        w
     }
-    x
-}
 
-pub fn left_crossing(y: &[f32], h: f32, i: usize) -> f32
-    requires { (i < length y.now) × (length y.now ≤ exact_index) }
-    ensures { result ≡ left_crossing y.now h i }
-{
-    left_crossing_from(y, h, i, left_foot(y, h, i))
-}
-
-// Where the row crosses the height h right of i, where the foot w is known.
-pub fn right_crossing_from(y: &[f32], h: f32, i: usize, w: usize) -> f32
-    requires { (i < length y.now) × (length y.now ≤ exact_index) × (w ≡ right_foot y.now h i) }
-    ensures { result ≡ right_crossing y.now h i }
-{
-    if i < w {
-        return numeric::inner::of_index(w - 1) + share_of(h, y[w - 1], y[w]);
+    // The same to the right.
+    pub fn right_foot(self) -> usize
+        ensures { result ≡ right_foot self.entry.y.now self.entry.h self.entry.i }
+    {
+        let Level { y, h, i } = self;
+        let mut w = i;
+        // A `while`, as on the left.
+        while w + 1 < y.len() && y[w] > h {
+            w += 1;
+        }
+        w
     }
-    numeric::inner::of_index(w)
-}
 
-pub fn right_crossing(y: &[f32], h: f32, i: usize) -> f32
-    requires { (i < length y.now) × (length y.now ≤ exact_index) }
-    ensures { result ≡ right_crossing y.now h i }
-{
-    right_crossing_from(y, h, i, right_foot(y, h, i))
+    // Where the row crosses the height left of i, where the foot w is known.
+    #[tactic(auto, unfolding(crate::specs::Apex::left_crossing))]
+    pub fn left_crossing_from(self, w: usize) -> f32
+        requires { (length self.y.now ≤ exact_index) × (w ≡ left_foot self.y.now self.h self.i) }
+        ensures { result ≡ left_crossing self.entry.y.now self.entry.h self.entry.i }
+    {
+        let x = numeric::inner::of_index(w);
+        if w < self.i {
+            return x + share_of(self.h, self.y[w], self.y[w + 1]);
+        }
+        x
+    }
+
+    pub fn left_crossing(self) -> f32
+        requires { length self.y.now ≤ exact_index }
+        ensures { result ≡ left_crossing self.entry.y.now self.entry.h self.entry.i }
+    {
+        self.left_crossing_from(self.left_foot())
+    }
+
+    // Where the row crosses the height right of i, where the foot w is known.
+    #[tactic(auto, unfolding(crate::specs::Apex::right_crossing))]
+    pub fn right_crossing_from(self, w: usize) -> f32
+        requires { (length self.y.now ≤ exact_index) × (w ≡ right_foot self.y.now self.h self.i) }
+        ensures { result ≡ right_crossing self.entry.y.now self.entry.h self.entry.i }
+    {
+        if self.i < w {
+            return numeric::inner::of_index(w - 1) + share_of(self.h, self.y[w - 1], self.y[w]);
+        }
+        numeric::inner::of_index(w)
+    }
+
+    pub fn right_crossing(self) -> f32
+        requires { length self.y.now ≤ exact_index }
+        ensures { result ≡ right_crossing self.entry.y.now self.entry.h self.entry.i }
+    {
+        self.right_crossing_from(self.right_foot())
+    }
 }

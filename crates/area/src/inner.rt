@@ -3,6 +3,7 @@ ghost use Rattle.std.specs.Prelude.{◌≡◌, ◌≤◌, ◌<◌, ◌+◌, ◌-
 ghost use Rattle.limits.specs.Limits.{exact_index};
 ghost use Rattle.area.specs.Area.{height_at, strip, within, head, whole, tail, across, between, area_f};
 
+#[tactic(auto, unfolding(crate::specs::Area::height_at))]
 fn height_at(y: &[f32], s: usize, t: f32) -> f32
     requires { s + 1 < length y.now }
     ensures { result ≡ height_at y.now s t }
@@ -10,12 +11,14 @@ fn height_at(y: &[f32], s: usize, t: f32) -> f32
     numeric::lerp(y[s], y[s + 1], t)
 }
 
+#[tactic(auto, unfolding(crate::specs::Area::strip))]
 fn strip_of(p: f32, q: f32, w: f32) -> f32
     ensures { result ≡ strip p q w }
 {
     0.5 * (p + q) * w
 }
 
+#[tactic(auto, unfolding(crate::specs::Area::within))]
 fn within_segment(y: &[f32], s: usize, x0: f32, x1: f32) -> f32
     requires { (s + 1 < length y.now) × (length y.now ≤ exact_index) }
     ensures { result ≡ within y.now s x0 x1 }
@@ -28,6 +31,7 @@ fn within_segment(y: &[f32], s: usize, x0: f32, x1: f32) -> f32
     strip_of(y0, y1, t1 - t0)
 }
 
+#[tactic(auto, unfolding(crate::specs::Area::head))]
 fn head_of(y: &[f32], s: usize, x0: f32) -> f32
     requires { (s + 1 < length y.now) × (length y.now ≤ exact_index) }
     ensures { result ≡ head y.now s x0 }
@@ -38,17 +42,20 @@ fn head_of(y: &[f32], s: usize, x0: f32) -> f32
 }
 
 // The sum of a start and the whole segments between two samples, added one after another.
+#[tactic(auto, unfolding(crate::specs::Area::whole), using(crate::proofs::Laws::whole_step))]
 pub fn whole_segments(y: &[f32], from: usize, to: usize, start: f32) -> f32
     requires { to < length y.now }
     ensures { result ≡ whole y.now (to - from) from start }
 {
     let mut area = start;
+    // Places: where `to` is not behind `from` there is no segment, and a slice of neighbours from one to the other could not be taken.
     for s in from..to {
-        area = area + 0.5 * (y[s] + y[s + 1]);
+        area += 0.5 * (y[s] + y[s + 1]);
     }
     area
 }
 
+#[tactic(auto, unfolding(crate::specs::Area::tail))]
 fn tail_of(y: &[f32], s: usize, x1: f32, area: f32) -> f32
     requires { (2 ≤ length y.now) × (length y.now ≤ exact_index) }
     ensures { result ≡ tail y.now s x1 area }
@@ -61,6 +68,7 @@ fn tail_of(y: &[f32], s: usize, x1: f32, area: f32) -> f32
     area
 }
 
+#[tactic(auto, unfolding(crate::specs::Area::across))]
 fn across_segments(y: &[f32], s0: usize, s1: usize, x0: f32, x1: f32) -> f32
     requires { (s0 + 1 < length y.now) × (length y.now ≤ exact_index) }
     ensures { result ≡ across y.now s0 s1 x0 x1 }
@@ -71,6 +79,7 @@ fn across_segments(y: &[f32], s0: usize, s1: usize, x0: f32, x1: f32) -> f32
 }
 
 // With guesses of the samples at or before x0 and x1.
+#[tactic(auto, unfolding(crate::specs::Area::between))]
 fn area_between(y: &[f32], x0: f32, x1: f32, g0: usize, g1: usize) -> f32
     requires { (2 ≤ length y.now) × (length y.now ≤ exact_index) }
     ensures { result ≡ between y.now x0 x1 }
@@ -88,6 +97,7 @@ fn area_between(y: &[f32], x0: f32, x1: f32, g0: usize, g1: usize) -> f32
 }
 
 // The area between two places. The guesses g0 and g1 of the samples at or before them only save time.
+#[tactic(auto, unfolding(crate::specs::Area::area_f))]
 pub fn trapezoid_area_near(y: &[f32], x0: f32, x1: f32, g0: usize, g1: usize) -> f32
     requires { length y.now ≤ exact_index }
     ensures { result ≡ area_f y.now x0 x1 }

@@ -25,7 +25,6 @@ use Rattle.wordbytes.specs.Bytes.{floats_of}
 use Rattle.wordbytes.proofs.BytesLaws.{floats-length}
 use Rattle.byterows.specs.AsBytes.{as_bytes}
 use Rattle.bytegrid.specs.ByteGrid.{Fit}
-use Rattle.byterows.proofs.Laws.{words_left}
 
 -- ---- weights
 -- no bytes are no floats
@@ -51,6 +50,11 @@ weights-ranged [] h = refl
 weights-ranged (w ∷ ws) h = sound-ranged (w ∷ ws) (rw (ne_eqb (length (w ∷ ws)) 0 (λ e. omega arith)) at h)
 
 -- ---- rows in two halves
+
+-- the bytes behind those of n peaks, as words
+words_left : (l n most left : ℕ) → n * size + most * size ≤ l / 4 → left ≡ l - n * size_in_bytes → l / 4 ≤ n * size + left / 4
+words_left l n most left h e = omega arith
+
 module _ (g : Grid) (from mid to room : ℕ) (f : Fit g from to room) (low : from ≤ mid) (high : mid < to) where
   pub front-fit : Fit g from mid room
   front-fit = record { ready = grid.ready-front g from mid to (room / 4) f.ready low (omega arith); order = low; narrow = f.narrow }

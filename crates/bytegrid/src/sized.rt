@@ -14,8 +14,8 @@ use rowsearch::scratch::Scratch;
 // Rows that are worked through in one part.
 const MANY_ROWS: usize = 65536;
 
-// The records of the peaks of the rows from `from` to `to`, with local lists for rows of at most N samples. It is no part of its callers, so that
-// each has the stack of one size alone.
+// The records of the peaks of the rows from `from` to `to`, with local lists for rows of at most N samples. It is no part of its callers,
+// so that each has the stack of one size alone. There is no heap, so the lists stand in its frame, as those of `row::inner::list_in` do.
 #[inline(never)]
 fn detect_in<const N: usize, const B: usize, const F: usize>(
     call: &ByteCall<'_>,

@@ -3,7 +3,7 @@
 
 pub mod stitching;
 
-ghost use Rattle.std.specs.Prelude.{◌≡◌, ◌/◌, ◌<◌, ◌^◌, length};
+ghost use Rattle.std.specs.Prelude.{◌≡◌, ◌||◌, eqb, ltb, ◌/◌, ◌<◌, ◌^◌, length};
 ghost use Rattle.refusal.specs.Numbered.{number_in, says};
 ghost use Rattle.entryword.specs.Word.{word_of, itself};
 ghost use Rattle.byterows.specs.Call.{bytes_in};
@@ -40,7 +40,8 @@ fn sound_weights(weights: &[u8]) -> bool
     smoothing::inner::sound_weights(&ws[..m])
 }
 
-// Reads the lists of a grid.
+// Reads the lists of a grid. The reader of a grid in words has another test for each field: one reader for both would need a trait with
+// all of these tests, and each of them is called at this one place.
 fn see(used: &[u8], scans: &[u8], mobility: &[u8], weights: &[u8]) -> Seen
     ensures { result ≡ seen_in (floats_of used.now) (words_of scans.now) (floats_of mobility.now) (floats_of weights.now) }
 {
@@ -57,13 +58,13 @@ fn see(used: &[u8], scans: &[u8], mobility: &[u8], weights: &[u8]) -> Seen
     }
 }
 
-// The number that refuses, or 0.
-fn number_in(found: Result<(), Refusal>) -> u32
-    ensures { result ≡ number_in found }
+// Whether no number up to 4 refuses.
+fn is_past_four(found: Result<(), Refusal>) -> bool
+    ensures { result ≡ (eqb (number_in found) 0 || ltb 4 (number_in found)) }
 {
     match found {
-        Ok(()) => 0,
-        Err(refusal) => refusal.number(),
+        Ok(()) => true,
+        Err(refusal) => refusal.number() > 4,
     }
 }
 
@@ -97,8 +98,7 @@ fn check(
         room / 4,
         call.cols,
     );
-    let n = number_in(found);
-    if (flag > 1) & ((n == 0) | (n > 4)) {
+    if (flag > 1) & is_past_four(found) {
         return Err(Refusal::Value);
     }
     found

@@ -43,7 +43,7 @@ pub extern "C" fn rubzolena_stitch_im_peaks(
         require_mutual_apex_inside: require_mutual_apex_inside == 1,
     };
     let told = (allow_cross_groups <= 1) & (require_mutual_apex_inside <= 1);
-    let lists = Lent {
+    let mut lists = Lent {
         out,
         owners,
         order,
@@ -51,7 +51,7 @@ pub extern "C" fn rubzolena_stitch_im_peaks(
         keys,
         merged,
     };
-    match stitch::inner::stitch_told(list, params, told, lists) {
+    match stitch::inner::stitch_told(list, params, told, &mut lists) {
         Ok(n) => (n as u64) * 64,
         Err(refusal) => u64::from(refusal.number()),
     }

@@ -23,7 +23,7 @@ fn is_near(a: f32, b: f32, sep: f32) -> bool
 }
 
 // Chooses, in their order, the apexes that lie at least `sep` from each one chosen before: an apex is a place of the table of
-// times. The chosen ones stand at the front of `out` then, and the answer is how many there are.
+// times. The chosen ones stand at the front of `out` then, and the answer is how many there are. docs/SCOPE.md fixes the label.
 pub fn choose(order: &[u32], times: &[u32], sep: f32, out: &mut [u32]) -> usize
     requires { (length order.now ≤ length out.old) × ((k : ℕ) → k < length order.now → get_or order.now k 0 < length times.now) }
     ensures count { result ≡ length (chosen (near_in_time (time_of times.now) sep) order.now) }

@@ -1,4 +1,5 @@
-// Identities that rise are distinct; others are sorted, and each is compared with the next.
+// Identities that rise are distinct; others are sorted, and each is compared with the next. The count of records is handed on beside the
+// list: each step asks for it, and the words of a slice would be divided by those of a record each time.
 ghost use Rattle.std.specs.Prelude.{◌≡◌, true, cond, ◌++◌, map, ℕ, ◌≤◌, ◌<◌, ◌*◌, length, get_or, take, drop};
 ghost use Rattle.limits.specs.Limits.{max_list};
 ghost use Rattle.record.specs.Record.{size};
@@ -14,6 +15,7 @@ fn rise(list: &[u32], n: usize) -> bool
     ensures distinct { result ≡ true → distinct_ids (peaks_of list.now n) ≡ true }
     ensures order { result ≡ true → by_identity (peaks_of list.now n) ≡ up_to n }
 {
+    // two records that follow each other; `windows` would give words that do
     for k in 1..n {
         if record::inner::im_id(list, k - 1) >= record::inner::im_id(list, k) {
             return false;

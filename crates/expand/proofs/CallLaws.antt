@@ -165,8 +165,12 @@ module _ (m : Many) (was : Lent) (counts : ℕ) (none : many_number m was counts
   pub weights-sound : (k : ℕ) → k < n → sound_weights (weights_at m k) ≡ true
   unfolding weights_at
   weights-sound k h =
-      let as_many : length m.lengths ≡ length m.list / size = eqb-true (length m.lengths) n lengths-met.2 in
-      each-weights m.lengths m.weights k others-met.0 (omega (arith, as_many, h))
+      let as-many : length m.lengths ≡ length m.list / size = eqb-true (length m.lengths) n lengths-met.2 in
+      each-weights m.lengths m.weights k others-met.0 (omega (arith, as-many, h))
+
+  -- a length a peak
+  pub as-many : length m.lengths ≡ peaks_in m
+  as-many = eqb-true (length m.lengths) n lengths-met.2
 
   pub ready : m.first < 4294967296 → Ready m n (length was.out) counts
   ready named =
@@ -174,7 +178,6 @@ module _ (m : Many) (was : Lent) (counts : ℕ) (none : many_number m was counts
       let v = values-met in
       let o = others-met in
       let whole : length m.list % size ≡ 0 = eqb-true (length m.list % size) 0 l.1 in
-      let as_many : length m.lengths ≡ length m.list / size = eqb-true (length m.lengths) n l.2 in
       let sums = eqb-true (sum_of m.lengths) (length m.weights) l.3 in
       let fit : n * most f ≤ identities - m.first = leb-true (n * most f) (identities - m.first) v.3 in
       record {
@@ -182,8 +185,8 @@ module _ (m : Many) (was : Lent) (counts : ℕ) (none : many_number m was counts
         weights = weights-sound;
         numbers = λ k h. sound-numbers (peak_at m.list k) (each-sound m.list n k o.2 h);
         peaks = omega arith;
-        lengths = le_of_eq (sym as_many);
-        joined = le_of_eq (ap (sum_to m.lengths) (sym as_many) ∙ sum-all m.lengths ∙ sums);
+        lengths = le_of_eq (sym as-many);
+        joined = le_of_eq (ap (sum_to m.lengths) (sym as-many) ∙ sum-all m.lengths ∙ sums);
         named = under m.first (n * most f) named fit;
         room = room-is n (most f) (length was.out) o.3;
         counted = leb-true n counts o.4;

@@ -11,17 +11,16 @@ use super::lent::Lent;
 use expandmany::peaks::PeakList;
 use expandone::run::FollowedRun;
 
-// Expands n mobility peaks with the first words of scratch, one a frame.
+// Expands all mobility peaks of a list with the first words of scratch, one a frame.
 pub fn expand_lent(
     run: &FollowedRun<'_>,
     peaks: &PeakList<'_>,
-    n: usize,
     lent: &mut Lent<'_>,
     counts: &mut [u32],
 ) -> usize
-    requires { Ready (many_in run.now peaks.now) n (length lent.old.out.now) (length counts.old)
+    requires { Ready (many_in run.now peaks.now) (length peaks.now.lengths.now) (length lent.old.out.now) (length counts.old)
         × Lendable (length run.now.ids.now) (length lent.old.raw.now) (length lent.old.smooth.now) (length lent.old.order.now) × (length run.now.ids.now ≤ max_frames) }
-    ensures done { Done (many_in run.now peaks.now) n lent.old.out.now counts.old result lent.new.out.now counts.new }
+    ensures done { Done (many_in run.now peaks.now) (length peaks.now.lengths.now) lent.old.out.now counts.old result lent.new.out.now counts.new }
     ensures past { PastKept (length run.now.ids.now) (lent_in lent.old) (lent_in lent.new) }
     ensures same { SameLists lent.old lent.new }
 {
@@ -29,7 +28,6 @@ pub fn expand_lent(
     super::sized::expand_sized(
         run,
         peaks,
-        n,
         lent.out,
         counts,
         &mut lent.raw[..f],

@@ -16,12 +16,12 @@ use expandmany::peaks::PeakList;
 use expandone::run::{FollowedRun, Run};
 use frameindex::CheckedIndex;
 use lent::Lent;
-use record::{ImPeak1D, PeakId};
+use record::PeakId;
 use refusal::Refusal;
 use rtparams::RtExpandParams;
 
-// Writes the retention peaks of all mobility peaks of a list, one after another, to the front of `out`, and for each mobility peak how many it
-// has to the front of `counts`; answers how many there are in all. Or refuses and leaves all five lists as they are.
+// Writes the retention peaks of all mobility peaks of a list, one after another, to the front of `out`, and for each mobility peak how
+// many it has to the front of `counts`; answers how many there are in all. Or refuses and leaves all five lists as they are.
 pub fn expand_many_im_peaks_along_rt(
     run: &Run<'_>,
     e: RtExpandParams,
@@ -41,9 +41,7 @@ pub fn expand_many_im_peaks_along_rt(
         scale: run.scale,
         params: e,
     };
-    let n = peaks.list.len() / ImPeak1D::WORDS;
-    let total = inner::expand_lent(&followed, &peaks, n, lent, counts);
-    Ok(total)
+    Ok(inner::expand_lent(&followed, &peaks, lent, counts))
 }
 
 // Writes the retention peaks of the mobility peak whose record is handed in to the front of `out` and answers how many there are; or

@@ -29,7 +29,7 @@ fn same_lengths(run: &Run<'_>, starts: usize, peaks: &PeakList<'_>) -> bool
 fn sound_records(list: &[u32]) -> bool
     ensures { result ≡ all_sound list.now (length list.now / size) }
 {
-    record::inner::all_sound(list, list.len() / ImPeak1D::WORDS)
+    record::inner::all_sound(list)
 }
 
 // What a call is asked besides its index; `counts` is the length of the column of counts.

@@ -12,24 +12,24 @@ use expandone::scratch::RunScratch;
 use expandpeak::scratch::TraceScratch;
 use rowsearch::scratch::Scratch;
 
-// Expands n mobility peaks, with room for a run of N frames. It is no part of its caller, so that shorter runs do not pay for the lists of
-// longer ones.
+// Expands all mobility peaks of a list, with room for a run of N frames. It is no part of its caller, so that shorter runs do not pay for
+// the lists of longer ones.
 #[inline(never)]
 fn expand_in<const N: usize, const B: usize, const F: usize>(
     run: &FollowedRun<'_>,
     peaks: &PeakList<'_>,
-    n: usize,
     out: &mut [u32],
     counts: &mut [u32],
     raw: &mut [f32],
     smooth: &mut [f32],
     order: &mut [u32],
 ) -> usize
-    requires run { Ready (many_in run.now peaks.now) n (length out.old) (length counts.old)
+    requires run { Ready (many_in run.now peaks.now) (length peaks.now.lengths.now) (length out.old) (length counts.old)
         × Lendable (length run.now.ids.now) (length raw.old) (length smooth.old) (length order.old) × (length run.now.ids.now ≤ N) }
     requires sizes { Sizes N B F }
-    ensures { Done (many_in run.now peaks.now) n out.old counts.old result out.new counts.new }
+    ensures { Done (many_in run.now peaks.now) (length peaks.now.lengths.now) out.old counts.old result out.new counts.new }
 {
+    // Arrays and structs of them: a function that lends them to a closure would have more lines.
     let mut turns = [0u32; N];
     let mut bases = [0u32; B];
     let mut found = [0u32; F];
@@ -50,26 +50,26 @@ fn expand_in<const N: usize, const B: usize, const F: usize>(
         near: &mut near,
         trace,
     };
-    expandmany::inner::expand_peaks(run, peaks, n, &mut scratch, out, counts)
+    expandmany::inner::expand_peaks(run, peaks, &mut scratch, out, counts)
 }
 
-// The same for any run of at most 16,384 frames.
+// The same for any run of at most 16,384 frames. Scratch stands list by list: the caller lends the front of each, and the borrow checker
+// has no rule for a struct of parts of lists that stand in a lent struct.
 pub fn expand_sized(
     run: &FollowedRun<'_>,
     peaks: &PeakList<'_>,
-    n: usize,
     out: &mut [u32],
     counts: &mut [u32],
     raw: &mut [f32],
     smooth: &mut [f32],
     order: &mut [u32],
 ) -> usize
-    requires { Ready (many_in run.now peaks.now) n (length out.old) (length counts.old)
+    requires { Ready (many_in run.now peaks.now) (length peaks.now.lengths.now) (length out.old) (length counts.old)
         × Lendable (length run.now.ids.now) (length raw.old) (length smooth.old) (length order.old) × (length run.now.ids.now ≤ max_frames) }
-    ensures { Done (many_in run.now peaks.now) n out.old counts.old result out.new counts.new }
+    ensures { Done (many_in run.now peaks.now) (length peaks.now.lengths.now) out.old counts.old result out.new counts.new }
 {
     if run.ids.len() <= 1024 {
-        return expand_in::<1024, 800, 4096>(run, peaks, n, out, counts, raw, smooth, order);
+        return expand_in::<1024, 800, 4096>(run, peaks, out, counts, raw, smooth, order);
     }
-    expand_in::<16384, 8480, 65536>(run, peaks, n, out, counts, raw, smooth, order)
+    expand_in::<16384, 8480, 65536>(run, peaks, out, counts, raw, smooth, order)
 }

@@ -14,8 +14,8 @@ use expandone::run::Run;
 use frameindex::FrameIndex;
 use tof::TofScale;
 
-// Writes the records of all mobility peaks' retention peaks, one after another, to the front of `out` and the count of each mobility peak's to
-// the front of `counts`, and answers 64 times the count of all; or answers with a number and leaves all five lists as they are.
+// Writes the records of all mobility peaks' retention peaks, one after another, to the front of `out` and the count of each mobility
+// peak's to the front of `counts`, and answers 64 times the count of all; or answers with a number and leaves all five lists as they are.
 #[unsafe(no_mangle)]
 pub extern "C" fn rubzolena_expand_many_im_peaks(
     list: &[u32],

@@ -7,7 +7,7 @@ use native.Mathlib.Numerals.{add-one}
 use native.Mathlib.Omega.{arith}
 use borrow.Rule.Slice.PartMut.{put_mid}
 use lib.ListN.{length, get_or, take, drop, set, length-map, length-append, length-take, length-drop}
-use lib.Seq.{take_at, drop_at, drop-drop}
+use lib.Seq.{take_at, drop_at, drop-drop, get_or-take}
 use lib.Ieee.{Float}
 use Rattle.limits.specs.Limits.{identities}
 use Rattle.record.specs.Record.{peak_at}
@@ -203,3 +203,18 @@ module _ (m : Many) (n out counts : ℕ) (h : Ready m n out counts) where
                 ∙ push (counts_to m i) counts₀ i r 0 (sym (counts-length m i)) (omega arith)
                 ∙ ap (λ (v : List ℕ). v ++ drop (i + 1) counts₀) (ap (λ (v : ℕ). counts_to m i ++ (v ∷ [])) own.count ∙ sym (counts-next m i));
           }
+
+-- ---- the front of a list of lengths
+pub front-sum : (lengths : List ℕ) (n k : ℕ) → k ≤ n → sum_to (take n lengths) k ≡ sum_to lengths k
+unfolding sum_to
+front-sum lengths n zero h = refl
+front-sum lengths n (suc k) h = rw (front-sum lengths n k (omega arith), get_or-take n lengths k 0 (omega arith))
+
+pub front-weights : (m : Many) (n k : ℕ) → k < n → weights_at (record m { lengths = take n m.lengths }) k ≡ weights_at m k
+unfolding weights_at
+front-weights m n k h = rw (front-sum m.lengths n k (omega arith), get_or-take n m.lengths k 0 h)
+
+pub front-joined : (m : Many) (n k : ℕ) → k ≤ n → joined_to (record m { lengths = take n m.lengths }) k ≡ joined_to m k
+unfolding joined_to
+front-joined m n zero h = refl
+front-joined m n (suc k) h = rw (front-joined m n k (omega arith), front-weights m n k (omega arith))

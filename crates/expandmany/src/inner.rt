@@ -15,12 +15,12 @@ use rtrecord::RtPeak1D;
 // The turn of the mobility peak at a place: its weights are the `len` ones from `at` on, its first identity, and how many retention peaks
 // come before its own.
 #[derive(Clone, Copy)]
-pub struct Turn {
-    pub place: usize,
-    pub at: usize,
-    pub len: usize,
-    pub first: PeakId,
-    pub total: usize,
+struct Turn {
+    place: usize,
+    at: usize,
+    len: usize,
+    first: PeakId,
+    total: usize,
 }
 
 // Writes the retention peaks of the mobility peak whose turn it is behind those before them and answers how many there are.
@@ -43,24 +43,23 @@ fn expand_at(
     expandone::inner::expand_peak(run, weights, p, turn.first, scratch, &mut out[from..])
 }
 
-// Writes the retention peaks of the first n mobility peaks of a list to the front of `out`, one peak's after another's, with
-// identities that run on, and how many each has to the front of `counts`. Answers how many there are in all.
+// Writes the retention peaks of all mobility peaks of a list to the front of `out`, one peak's after another's, with identities that run
+// on, and how many each has to the front of `counts`. Answers how many there are in all.
 pub fn expand_peaks(
     run: &FollowedRun<'_>,
     peaks: &PeakList<'_>,
-    n: usize,
     scratch: &mut RunScratch<'_, '_, '_>,
     out: &mut [u32],
     counts: &mut [u32],
 ) -> usize
-    requires { Ready (many_in run.now peaks.now) n (length out.old) (length counts.old)
+    requires { Ready (many_in run.now peaks.now) (length peaks.now.lengths.now) (length out.old) (length counts.old)
         × (length run.now.ids.now ≤ scratch.old.trace.search.samples) }
-    ensures { Done (many_in run.now peaks.now) n out.old counts.old result out.new counts.new }
+    ensures { Done (many_in run.now peaks.now) (length peaks.now.lengths.now) out.old counts.old result out.new counts.new }
 {
     let mut total = 0usize;
     let mut at = 0usize;
-    for i in 0..n {
-        let len = peaks.lengths[i] as usize;
+    for (i, &length) in peaks.lengths.iter().enumerate() {
+        let len = length as usize;
         let turn = Turn {
             place: i,
             at,

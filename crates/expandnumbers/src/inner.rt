@@ -12,8 +12,9 @@ use rtparams::RtExpandParams;
 use rtrecord::RtPeak1D;
 
 // What a call is asked besides its index, each true where it is met: lengths that agree (number 1), sizes within their limits (2),
-// parameters, times and identities (4), TOF values (5), weights (6), axes that rise or do not fall (7), records (9), room for what is written (20),
-// scratch (21), and a scale whose numbers agree (22).
+// parameters, times and identities (4), TOF values (5), weights (6), axes that rise or do not fall (7), records (9), room for what is
+// written (20), scratch (21), and a scale whose numbers agree (22). A flag for each rung of the ladder, of which any may be set: no enum
+// of cases stands for them.
 #[derive(Clone, Copy)]
 pub struct Asked {
     pub lengths: bool,
@@ -28,7 +29,7 @@ pub struct Asked {
     pub scale: bool,
 }
 
-// Refuses with the lowest number that applies.
+// Refuses with the lowest number that applies. The ladder of `frameindex::numbers` has no rungs 6 and 7, which stand between others here.
 #[tactic(auto, unfolding(refusal::specs::Refusal::first_of))]
 pub fn check(s: Seen, a: Asked) -> Result<(), Refusal>
     ensures { number_in result ≡ first_of (expand_checks s a) }

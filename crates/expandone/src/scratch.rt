@@ -3,8 +3,8 @@ ghost use Rattle.std.specs.Prelude.{◌≤◌, length};
 
 use expandpeak::scratch::TraceScratch;
 
-// Lent lists for runs of as many frames as the traces of `trace` have at most: the raw trace, where the search of each frame begins, and what the
-// search of the trace needs.
+// Lent lists for runs of as many frames as the traces of `trace` have at most: the raw trace, where the search of each frame begins, and
+// what the search of the trace needs.
 #[derive(Drop)]
 pub struct RunScratch<'a, 'b, 'c> {
     pub raw: &'a mut [f32],

@@ -27,7 +27,8 @@ fn put_listed(trace: Trace, found: &[u32], order: &[u32], at: Placing, out: &mut
     }
 }
 
-// Searches a trace and writes the retention peaks of its listed apexes to the front of `out`. Answers how many there are.
+// Searches a trace and writes the retention peaks of its listed apexes to the front of `out`. Answers how many there are. The scratch and
+// the order stand apart, since the trace borrows the smoothed list of the same struct.
 fn search_smoothed(
     trace: Trace,
     e: RtExpandParams,

@@ -14,7 +14,7 @@ use rtwindow::Frames;
 use tof::TofScale;
 
 // Which way a mobility peak takes whose frames are known: its trace has no reading above 0, it has fewer frames than are searched, or
-// it is smoothed and searched.
+// it is smoothed and searched. Three ways by name, none of which carries a value.
 #[derive(Clone, Copy)]
 pub enum Way {
     AllZero,
@@ -81,7 +81,7 @@ pub fn way_of(x: &[f32], least: u32) -> Way
 impl<'a> Placing<'a> {
     // Writes the retention peak of an apex of the trace of n frames to the front of `out`.
     #[tactic(auto, unfolding(rtrecord::specs::RtRecord::with_rt_peak))]
-    fn put_apex(self, n: usize, a: RtApex, out: &mut [u32])
+    pub fn put_apex(self, n: usize, a: RtApex, out: &mut [u32])
         requires { (0 < n) × (self.lo + n ≤ length self.ids.now) × (length self.ids.now ≤ exact_index) × (a.rt_idx < n) × (rt_size ≤ length out.old) }
         ensures { out.new ≡ rt_words (placed self.entry.lo n self.entry.ids.now self.entry.peak a self.entry.first) ++ drop rt_size out.old }
     {
@@ -89,8 +89,8 @@ impl<'a> Placing<'a> {
         rtrecord::inner::put_rt_peak(out, 0, q);
     }
 
-    // Writes the fallback's peak of the trace to the front of `out`, if there is one, and answers how many were written. The fallback is handed
-    // the times and the numbers of the whole run.
+    // Writes the fallback's peak of the trace to the front of `out`, if there is one, and answers how many were written. The fallback is
+    // handed the times and the numbers of the whole run.
     pub fn put_fallback(self, x: &[f32], frac: f32, out: &mut [u32]) -> usize
         requires { (0 < length x.now) × (self.lo + length x.now ≤ length self.ids.now) × (length self.ids.now ≤ exact_index) × (0 < length self.times.now) × (rt_size ≤ length out.old) }
         ensures { Put (fallback_peaks x.now self.entry.lo self.entry.ids.now self.entry.times.now self.entry.peak frac self.entry.first) out.old result out.new }

@@ -25,7 +25,8 @@ fn sigma_over(sec: f32, times: &[f32], lo: usize, hi: usize) -> f32
     numeric::max(sec / noise::inner::effective_dt(&times[lo..end]), 0.75)
 }
 
-// The padded frame window of a peak with its sigma, if it has one.
+// The padded frame window of a peak with its sigma, if it has one. Numbers and times of the frames stand apart, since each step needs the
+// one or the other alone.
 #[tactic(auto, unfolding(crate::specs::Window::window_of, crate::specs::Window::with_sigma))]
 pub fn window_of(ids: &[u32], times: &[f32], e: RtExpandParams, p: ImPeak1D) -> Option<RtWindow>
     requires { (rising ids.now ≡ true) × (length ids.now ≤ 4294967296) × (length times.now ≡ length ids.now) × (p.frame_id_lo ≤ p.frame_id_hi) }

@@ -31,7 +31,7 @@ fn check(peak: &[u32], ids: &[u32], times: &[f32], e: RtExpandParams) -> Result<
     if !(params::inner::is_rising(ids) & rttime::inner::never_falls(times)) {
         return Err(Refusal::Order);
     }
-    if !record::inner::all_sound(peak, 1) {
+    if !record::inner::all_sound(peak) {
         return Err(Refusal::Record);
     }
     Ok(())

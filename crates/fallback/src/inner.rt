@@ -4,9 +4,10 @@ ghost use Rattle.limits.specs.Limits.{exact_index};
 ghost use Rattle.apex.specs.Apex.{least};
 ghost use Rattle.fallback.specs.Fallback.{∞, top_of, sums_of, centroid, time_of, number_at, bounds_of, apex_of, fallback_of};
 
+use apex::inner::Level;
 use record::ImPeak1D;
 use rtrecord::{PeakId, RtApex, RtBounds, RtPeak1D};
-use spans::inner::Span;
+use spans::inner::{Apex, Span};
 
 // The highest reading of a trace, and its place.
 #[derive(Clone, Copy)]
@@ -146,7 +147,7 @@ fn apex_of(y: &[f32], t: &[f32], top: Top, s: Span) -> RtApex
 }
 
 // The retention peak of a trace of the mobility peak p, with the ends at the share `frac` of its highest reading; none where
-// no reading is above 0. Frames are those of the trace.
+// no reading is above 0. Frames are those of the trace. Their numbers and times stand apart: there may be times without numbers.
 pub fn fallback_rt_peak_from_trace(
     trace: &[f32],
     ids: &[u32],
@@ -167,8 +168,18 @@ pub fn fallback_rt_peak_from_trace(
     }
     let threshold = frac * top.height;
     let place = top.place;
-    let reach = spans::inner::reach_of(trace, threshold, place);
-    let span = spans::inner::span_of(trace, trace, threshold, place, reach);
+    let reach = spans::inner::reach_of(Level {
+        y: trace,
+        h: threshold,
+        i: place,
+    });
+    let found = Apex {
+        y: trace,
+        z: trace,
+        h: threshold,
+        i: place,
+    };
+    let span = found.span_of(reach);
     let apex = apex_of(trace, times, top, span);
     let bounds = bounds_of(ids, p, span.left, span.right);
     Some(rtrecord::inner::rt_peak_of(apex, bounds, p, id))

@@ -2,3 +2,4 @@
 pub mod FrameBins
 pub mod Steps
 pub mod Cases
+pub mod Lists

@@ -16,16 +16,6 @@ use Rattle.frameindex.specs.FrameIndex.{climbs_from, climbs_to, bins_between, fr
 
 -- ---- reading from the front
 
-pub climbs-none : (n : ℕ) (l : List ℕ) → length l ≡ 0 → climbs_to n l ≡ false
-unfolding climbs_to
-climbs-none n [] h = refl
-climbs-none n (s ∷ ss) h = absurd (omega arith)
-
-pub climbs-start : (n : ℕ) (l : List ℕ) → 0 < length l → climbs_to n l ≡ (eqb (get_or l 0 0) 0 && climbs_from n (get_or l 0 0) (drop 1 l))
-unfolding climbs_to
-climbs-start n [] h = absurd (omega arith)
-climbs-start n (s ∷ ss) h = refl
-
 pub climbs-step : (n s : ℕ) (l : List ℕ) (i : ℕ) → i < length l → climbs_from n s (drop i l) ≡ (leb s (get_or l i 0) && climbs_from n (get_or l i 0) (drop (i + 1) l))
 unfolding climbs_from
 climbs-step n s l i h = rw (add-one, drop-cons l i 0)
@@ -33,16 +23,6 @@ climbs-step n s l i h = rw (add-one, drop-cons l i 0)
 pub climbs-end : (n s : ℕ) (l : List ℕ) (i : ℕ) → length l ≤ i → climbs_from n s (drop i l) ≡ eqb s n
 unfolding climbs_from
 climbs-end n s l i h = rw (drop_of_length-le l h)
-
-pub frames-none : (bins l : List ℕ) → length l ≡ 0 → frames_rise bins l ≡ true
-unfolding frames_rise
-frames-none bins [] h = refl
-frames-none bins (s ∷ ss) h = absurd (omega arith)
-
-pub frames-start : (bins l : List ℕ) → 0 < length l → frames_rise bins l ≡ frames_rise_from bins (get_or l 0 0) (drop 1 l)
-unfolding frames_rise
-frames-start bins [] h = absurd (omega arith)
-frames-start bins (s ∷ ss) h = refl
 
 pub frames-step : (bins : List ℕ) (s : ℕ) (l : List ℕ) (i : ℕ) → i < length l
     → frames_rise_from bins s (drop i l) ≡ (rising (bins_between bins s (get_or l i 0)) && frames_rise_from bins (get_or l i 0) (drop (i + 1) l))
@@ -84,6 +64,17 @@ from_last : (n s : ℕ) (l : List ℕ) → climbs_from n s l ≡ true → get_or
 unfolding climbs_from
 from_last n s [] h = eqb-true s n h
 from_last n s (t ∷ ts) h = from_last n t ts (both (leb s t) h).1
+
+pub climbs_tail : (n s : ℕ) (l : List ℕ) → climbs_to n (s ∷ l) ≡ true → climbs_from n s l ≡ true
+unfolding climbs_to
+climbs_tail n s l h = (both (eqb s 0) h).1
+
+-- of those from place i on the next is not below s nor above n, and the rest climb from it
+pub climbs-next : (n s : ℕ) (l : List ℕ) (i : ℕ) → climbs_from n s (drop i l) ≡ true → i < length l
+    → (s ≤ get_or l i 0) × (get_or l i 0 ≤ n) × (climbs_from n (get_or l i 0) (drop (i + 1) l) ≡ true)
+climbs-next n s l i h k =
+    let x = get_or l i 0 in
+    let b = both (leb s x) (rw (climbs-step n s l i k) at h) in (leb-true s x b.0, from-most n x (drop (i + 1) l) b.1, b.1)
 
 -- there is one at least, and the first is 0
 pub climbs-some : (n : ℕ) (l : List ℕ) → climbs_to n l ≡ true → 0 < length l

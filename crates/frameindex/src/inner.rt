@@ -4,7 +4,7 @@ ghost use Rattle.params.specs.Params.{rising};
 ghost use Rattle.frameindex.specs.FrameIndex.{climbs_to, bins_between, frames_rise, sound_lists, seen_in};
 
 // What reading an index shows: lengths that agree (number 1), a size above its limit (2), readings (3) and scans (5) in range, and
-// whether it is sound (23).
+// whether it is sound (23). A flag for each rung of the ladder, of which any may be set: no enum of cases stands for them.
 #[derive(Clone, Copy)]
 pub struct Seen {
     pub agreeing: bool,
@@ -14,18 +14,28 @@ pub struct Seen {
     pub sound: bool,
 }
 
+// How many frames there are, by the count of starts.
+pub fn frames(starts: usize) -> usize
+    ensures { result ≡ starts - 1 }
+{
+    starts.saturating_sub(1)
+}
+
 // Whether numbers start at 0, never fall and end at n.
+#[tactic(auto, unfolding(crate::specs::FrameIndex::climbs_to))]
 fn climbs_to(n: usize, list: &[u32]) -> bool
     ensures { result ≡ climbs_to n list.now }
 {
-    if list.len() == 0 {
+    let Some((&first, rest)) = list.split_first() else {
         return false;
+    };
+    let mut all = first == 0;
+    let mut last = first;
+    for &x in rest {
+        all &= last <= x;
+        last = x;
     }
-    let mut all = list[0] == 0;
-    for i in 1..list.len() {
-        all &= list[i - 1] <= list[i];
-    }
-    all & (list[list.len() - 1] as usize == n)
+    all & (last as usize == n)
 }
 
 // Whether the bins of a frame rise: those from place s on, before place t.
@@ -37,13 +47,19 @@ fn rises(bins: &[u32], s: usize, t: usize) -> bool
 }
 
 // Whether those of each frame do.
+#[tactic(auto, unfolding(crate::specs::FrameIndex::frames_rise), using(crate::proofs::Laws::climbs_tail))]
 fn frames_rise(bins: &[u32], starts: &[u32]) -> bool
     requires { climbs_to (length bins.now) starts.now ≡ true }
     ensures { result ≡ frames_rise bins.now starts.now }
 {
+    let Some((&first, rest)) = starts.split_first() else {
+        return true;
+    };
     let mut all = true;
-    for f in 1..starts.len() {
-        all &= rises(bins, starts[f - 1] as usize, starts[f] as usize);
+    let mut from = first;
+    for &to in rest {
+        all &= rises(bins, from as usize, to as usize);
+        from = to;
     }
     all
 }

@@ -37,7 +37,7 @@ impl<'a> FrameIndex<'a> {
     pub fn frames(&self) -> usize
         ensures { result ≡ frames self.now }
     {
-        self.starts.len().saturating_sub(1)
+        inner::frames(self.starts.len())
     }
 
     // Reads the index; `limit` is the highest pattern of a reading.

@@ -9,7 +9,7 @@ use refusal::Refusal;
 
 // What a call is asked besides its index, each true where it is met: lengths that agree (number 1), sizes within their limits (2),
 // parameters (4), TOF values and scans (5) and records (9) in range, room for what is written (20), scratch (21), and a scale whose
-// numbers agree (22).
+// numbers agree (22). A flag for each rung of the ladder, of which any may be set: no enum of cases stands for them.
 #[derive(Clone, Copy)]
 pub struct Further {
     pub lengths: bool,
@@ -38,7 +38,8 @@ pub fn plain(values: bool, axes: bool, room: bool, scale: bool) -> Further
     }
 }
 
-// Refuses with the lowest number that applies.
+// Refuses with the lowest number that applies. Expansion has a ladder of its own, in which 6 and 7 stand between these rungs, so that none
+// of the two is a part of the other.
 #[tactic(auto, unfolding(refusal::specs::Refusal::first_of))]
 pub fn check(s: Seen, f: Further) -> Result<(), Refusal>
     ensures { number_in result ≡ first_of (index_checks s f) }

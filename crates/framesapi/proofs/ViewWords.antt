@@ -14,7 +14,7 @@ use Rattle.framebins.specs.declared.inner.Counts.{Counts}
 use Rattle.frameview.specs.Answer.{Frame, Lent, room_of, view_checks, view_number, number_for, bins_of, counts_of}
 use Rattle.frameview.specs.Answer as view
 use Rattle.frameview.proofs.Laws.{accepted}
-use Rattle.entryword.specs.Word.{word_of}
+use Rattle.entryword.specs.Word.{word_of, itself}
 use Rattle.framesapi.specs.View.{bins_in, Answered, ViewTold}
 use Rattle.entryword.proofs.Words.{below, first_below, word_fits, word-told}
 
@@ -36,3 +36,7 @@ module _ {f : Frame} {was is : Lent} {r : Result Counts Refusal} (a : view.Answe
 
   pub view-word : (w : ℕ) → w ≡ word_of bins_in (says r) → Answered f was is w
   view-word w e = record { word = e ∙ ap (word_of bins_in) a.answered; lists = subst (λ (x : Result Counts Refusal). view.Answered f was is x) (which Counts r _ _ a.answered) a }
+
+  -- by way of the count of bins alone
+  pub view_word_by : (w : ℕ) (bins : Result ℕ Refusal) → w ≡ word_of itself (says bins) → word_of itself (says bins) ≡ word_of bins_in (says r) → Answered f was is w
+  view_word_by w bins e h = view-word w (e ∙ h)

@@ -1,4 +1,4 @@
-// Marginals as C functions on numbers and lists.
+// Marginals as C functions on numbers and lists. C has no structs of lists, so each of the two makes its own of flat arguments.
 ghost use Rattle.frameindex.specs.FrameIndex.{index_of};
 ghost use Rattle.marginals.specs.Marginals.{block_of};
 ghost use Rattle.framesapi.specs.Marginals.{RtSummed, ImSummed};

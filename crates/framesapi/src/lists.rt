@@ -6,6 +6,7 @@ ghost use Rattle.framesapi.specs.ManyTraces.{Answered};
 
 use entryword::word_of;
 use frameindex::FrameIndex;
+use manytraces::peaks::PaddedPeaks;
 use tof::TofScale;
 
 // Puts the traces of all peaks of a list one after another to the front of `out` and answers 64 times their count, or answers with a
@@ -43,13 +44,11 @@ pub extern "C" fn rubzolena_rt_traces_for_im_peaks_by_bounds(
         scans,
         readings,
     };
-    let answer = manytraces::rt_traces_for_im_peaks_by_bounds(
-        &ix,
-        scale,
+    let peaks = PaddedPeaks {
         list,
-        extra_bins_pad,
-        out,
-        windows,
-    );
+        scale,
+        pad: extra_bins_pad,
+    };
+    let answer = manytraces::rt_traces_for_im_peaks_by_bounds(&ix, peaks, out, windows);
     word_of(answer)
 }

@@ -8,6 +8,7 @@ ghost use Rattle.framesapi.specs.View.{bins_in, Answered};
 
 use entryword::word_of;
 use framebins::inner::Counts;
+use framebins::lists::{Points, Scratch, View};
 use refusal::Refusal;
 use tof::TofScale;
 
@@ -21,6 +22,7 @@ fn bins_of(answer: Result<Counts, Refusal>) -> Result<usize, Refusal>
 
 // Puts the points of a frame that have a bin, sorted by bin, to the front of four lists and answers 64 times the count of bins; or
 // answers with a number and leaves all seven lists as they are. The place where the last bin ends is the last of the offsets.
+#[tactic(auto, using(crate::proofs::ViewWords::view_word_by))]
 #[unsafe(no_mangle)]
 pub extern "C" fn rubzolena_build_frame_bin_view(
     tofs: &[u32],
@@ -52,20 +54,25 @@ pub extern "C" fn rubzolena_build_frame_bin_view(
         tof_step,
         num_bins,
     };
-    let answer = frameview::build_frame_bin_view(
+    let points = Points {
         tofs,
         scans,
         readings,
+    };
+    let mut view = View {
+        bins: out_bins,
+        offsets: out_offsets,
+        scans: out_scans,
+        readings: out_readings,
+    };
+    let mut scratch = Scratch { keys, order, spare };
+    let answer = frameview::build_frame_bin_view(
+        points,
         scale,
         global_num_scans,
         base,
-        out_bins,
-        out_offsets,
-        out_scans,
-        out_readings,
-        keys,
-        order,
-        spare,
+        &mut view,
+        &mut scratch,
     );
     word_of(bins_of(answer))
 }

@@ -2,15 +2,20 @@
 use mathlib.Core.Path.{◌≡◌, refl, sym, ap, ◌∙◌}
 use mathlib.Core.Bool.{Bool, true, false, cond, ◌||◌}
 use mathlib.Core.List.{List, [], ◌∷◌, ◌++◌, map, map-append, append_assoc}
-use Prim.Native.Nat.{ℕ, zero, suc, ◌≤◌, ◌<◌, ◌+◌, ◌-◌, ◌*◌, ◌/◌}
+use Prim.Native.Nat.{ℕ, zero, suc, ◌≤◌, ◌<◌, ◌+◌, ◌-◌}
 use native.Mathlib.Numerals.{add-one}
 use native.Mathlib.Omega.{arith}
-use borrow.Author.Tests.{le-leb, lt-leb, ltb-true, ltb-false, eqb-true, eqb-false}
-use lib.Dec.{leb, ltb, eqb}
-use lib.ListN.{length, get_or, take, drop, set, length-map}
-use lib.Seq.{drop-cons, take-suc, set_at}
+use borrow.Author.Tests.{le-leb, lt-leb, ltb-true, ltb-false, lt-ltb}
+use lib.Dec.{leb, ltb}
+use lib.ListN.{length, get_or, take, drop, set, length-map, length-drop}
+use lib.Seq.{drop-cons, take-suc, set_at, get_or-take, get_or-drop, length-take-le}
 use lib.Ieee.{Float, nan}
-use Rattle.refusal.proofs.Bools.{and-false, neither}
+use Rattle.std.specs.Prelude.{MatchOption, Option, Some, None, is_some}
+use Rattle.std.specs.List.{position, position_or_len}
+use Rattle.std.specs.List.Sorted.{IsPartitionedBy, IsPartitionPoint}
+use Rattle.std.proofs.lemmas.List.Quantifiers.{position-Some}
+use Rattle.std.proofs.lemmas.List.Sums.{fails_before_first}
+use Rattle.refusal.proofs.Bools.{clash, and-false, neither}
 use Rattle.numeric.specs.Arith.{◌⊕◌, 𝟎, at}
 use Rattle.digits.specs.Sorted.{up_to}
 use Rattle.digits.proofs.UpTo.{upto-length}
@@ -19,6 +24,10 @@ use Rattle.frameindex.proofs.Laws.{climbs-up, climbs-most, frame-up, sound-parts
 use Rattle.framesums.specs.declared.inner.Window.{Window}
 use Rattle.framesums.specs.Sums.{in_bins, in_scans, add_points, add_bins, add_frame, frame_sums}
 use Rattle.framesums.specs.Steps.{Checked, Rising, FirstAt, any_in, with_scans, PointsOf}
+
+-- an element of a part, by its place in the whole
+pub part_at : {A : Type 0} (a b : ℕ) (l : List A) (i : ℕ) (d : A) → i < b - a → get_or (take (b - a) (drop a l)) i d ≡ get_or l (a + i) d
+part_at a b l i d h = get_or-take (b - a) (drop a l) i d h ∙ get_or-drop a l i d
 
 module _ (ix : Index) (w : Window) where
   -- ---- points
@@ -141,9 +150,6 @@ or-false : (a : Bool) → (a || false) ≡ a
 or-false true = refl
 or-false false = refl
 
-pub any-start : (w : Window) (scans : List ℕ) (n j : ℕ) → any_in w scans n j ≡ (false || any_in w scans (n - 0) (j + 0))
-any-start w scans n j = let e : n - 0 ≡ n = omega arith in let k : j + 0 ≡ j = omega arith in rw (e, k)
-
 pub any-more : (w : Window) (scans : List ℕ) (n i j : ℕ) (any : Bool) → i < n → any_in w scans n j ≡ (any || any_in w scans (n - i) (j + i))
     → any_in w scans n j ≡ ((any || in_scans w (get_or scans (j + i) 0)) || any_in w scans (n - (i + 1)) (j + (i + 1)))
 any-more w scans n i j any h e =
@@ -156,27 +162,6 @@ any-end w scans n i j any h e = let z : n - i ≡ 0 = omega arith in sym (or-fal
 
 -- ---- the search
 
--- a step that is taken or not
-pub step-most : (h d : ℕ) (t : Bool) → d ≡ cond t 1 0 → h * d ≤ h
-step-most h d true e = rw e (omega arith)
-step-most h d false e = rw e (omega arith)
-
--- a test, reckoned
-pub below-is : (a b : ℕ) → a < 4294967296 → b < 4294967296 → 1 - (a + 4294967296 - b) / 4294967296 ≡ cond (ltb a b) 1 0
-below-is a b h k = go (ltb a b) refl
-  where
-    go : (t : Bool) → ltb a b ≡ t → 1 - (a + 4294967296 - b) / 4294967296 ≡ cond t 1 0
-    go true t = let l = ltb-true a b t in omega arith
-    go false t = let l = ltb-false a b t in omega arith
-
--- places before r have bins below x, those from n past it on have bins of x at least
-pub record Halved (bins : List ℕ) (from to x r n : ℕ) : Type 0 where
-  pub some : 0 < n
-  pub after : from ≤ r
-  pub before : r + n ≤ to
-  pub low : (j : ℕ) → from ≤ j → j < r → get_or bins j 0 < x
-  pub high : (j : ℕ) → r + n ≤ j → j < to → x ≤ get_or bins j 0
-
 pub rise-le : (bins : List ℕ) (from to j k : ℕ) → Rising bins from to → from ≤ j → j ≤ k → k < to → get_or bins j 0 ≤ get_or bins k 0
 rise-le bins from to j k r a b d = go (ltb j k) refl
   where
@@ -185,99 +170,6 @@ rise-le bins from to j k r a b d = go (ltb j k) refl
     go false t = let e : j ≡ k = omega (arith, ltb-false j k t) in rw e (omega arith)
 
 module _ (bins : List ℕ) (from to x : ℕ) (rise : Rising bins from to) where
-  pub halved-start : from < to → Halved bins from to x from (to - from)
-  halved-start h =
-      record {
-        some = omega arith;
-        after = omega arith;
-        before = omega arith;
-        low = λ j a b. absurd (omega arith);
-        high = λ j a b. absurd (omega arith);
-      }
-
-  -- the bin halfway is below x, or it is not
-  halved-up : (r n h : ℕ) → Halved bins from to x r n → h < n → get_or bins (r + h) 0 < x → Halved bins from to x (r + h) (n - h)
-  halved-up r n h g k b =
-      let after : from ≤ r = g.after in
-      let before : r + n ≤ to = g.before in
-      record {
-        some = omega arith;
-        after = omega arith;
-        before = omega arith;
-        low = λ j a d. omega (arith, rise-le bins from to j (r + h) rise a (omega arith) (omega arith));
-        high = λ j a d. g.high j (omega arith) d;
-      }
-
-  halved-down : (r n h : ℕ) → Halved bins from to x r n → h + h ≤ n → 0 < h → x ≤ get_or bins (r + h) 0 → Halved bins from to x r (n - h)
-  halved-down r n h g k z b =
-      let after : from ≤ r = g.after in
-      let before : r + n ≤ to = g.before in
-      record {
-        some = omega arith;
-        after = after;
-        before = omega arith;
-        low = g.low;
-        high = λ j a d. omega (arith, rise-le bins from to (r + h) j rise (omega arith) (omega arith) d);
-      }
-
-  -- by what the test comes to
-  pub halved-by : (r n h d : ℕ) → Halved bins from to x r n → h + h ≤ n → 0 < h → d ≡ cond (ltb (get_or bins (r + h) 0) x) 1 0 → Halved bins from to x (r + h * d) (n - h)
-  halved-by r n h d g k z e = go (ltb (get_or bins (r + h) 0) x) refl
-    where
-      go : (t : Bool) → ltb (get_or bins (r + h) 0) x ≡ t → Halved bins from to x (r + h * d) (n - h)
-      go true t =
-          let o : d ≡ 1 = e ∙ ap (λ (b : Bool). cond b 1 0) t in
-          let m : r + h * 1 ≡ r + h = omega arith in
-          rw (o, m) (halved-up r n h g (omega arith) (ltb-true (get_or bins (r + h) 0) x t))
-      go false t =
-          let o : d ≡ 0 = e ∙ ap (λ (b : Bool). cond b 1 0) t in
-          let m : r + h * 0 ≡ r = omega arith in
-          rw (o, m) (halved-down r n h g k z (ltb-false (get_or bins (r + h) 0) x t))
-
-  -- one place is left
-  halved-past : (r n : ℕ) → Halved bins from to x r n → n ≤ 1 → get_or bins r 0 < x → FirstAt bins from to x (r + 1)
-  halved-past r n g k b =
-      let some : 0 < n = g.some in
-      let after : from ≤ r = g.after in
-      let before : r + n ≤ to = g.before in
-      record {
-        after = omega arith;
-        before = omega arith;
-        low = λ j a d. omega (arith, rise-le bins from to j r rise a (omega arith) (omega arith));
-        high = λ j a d. g.high j (omega arith) d;
-      }
-
-  halved-at : (r n : ℕ) → Halved bins from to x r n → n ≤ 1 → x ≤ get_or bins r 0 → FirstAt bins from to x r
-  halved-at r n g k b =
-      let some : 0 < n = g.some in
-      let after : from ≤ r = g.after in
-      let before : r + n ≤ to = g.before in
-      record {
-        after = after;
-        before = omega arith;
-        low = g.low;
-        high = λ j a d. omega (arith, rise-le bins from to r j rise after a d);
-      }
-
-  pub halved-end : (r n d : ℕ) → Halved bins from to x r n → n ≤ 1 → d ≡ cond (ltb (get_or bins r 0) x) 1 0 → FirstAt bins from to x (r + d)
-  halved-end r n d g k e = go (ltb (get_or bins r 0) x) refl
-    where
-      go : (t : Bool) → ltb (get_or bins r 0) x ≡ t → FirstAt bins from to x (r + d)
-      go true t = let o : d ≡ 1 = e ∙ ap (λ (b : Bool). cond b 1 0) t in rw o (halved-past r n g k (ltb-true (get_or bins r 0) x t))
-      go false t =
-          let o : d ≡ 0 = e ∙ ap (λ (b : Bool). cond b 1 0) t in
-          let m : r + 0 ≡ r = omega arith in
-          rw (o, m) (halved-at r n g k (ltb-false (get_or bins r 0) x t))
-
-  pub first-none : from ≡ to → FirstAt bins from to x from
-  first-none e =
-      record {
-        after = omega arith;
-        before = omega arith;
-        low = λ j a d. absurd (omega arith);
-        high = λ j a d. absurd (omega arith);
-      }
-
   -- step by step
   pub first-here : (i : ℕ) → from ≤ i → i < to → ((j : ℕ) → from ≤ j → j < i → get_or bins j 0 < x) → x ≤ get_or bins i 0 → FirstAt bins from to x i
   first-here i a b l h =
@@ -286,12 +178,76 @@ module _ (bins : List ℕ) (from to x : ℕ) (rise : Rising bins from to) where
   pub first-last : (i : ℕ) → from ≤ i → i ≡ to → ((j : ℕ) → from ≤ j → j < i → get_or bins j 0 < x) → FirstAt bins from to x i
   first-last i a b l = record { after = a; before = omega arith; low = l; high = λ j k d. absurd (omega arith) }
 
-  pub low-more : (i : ℕ) → ((j : ℕ) → from ≤ j → j < i → get_or bins j 0 < x) → get_or bins i 0 < x → (j : ℕ) → from ≤ j → j < i + 1 → get_or bins j 0 < x
-  low-more i l h j a b = go (eqb j i) refl
-    where
-      go : (t : Bool) → eqb j i ≡ t → get_or bins j 0 < x
-      go true t = let e : j ≡ i = eqb-true j i t in rw e h
-      go false t = let n = eqb-false j i t in l j a (omega arith)
+any-default : (l : List ℕ) (i d e : ℕ) → i < length l → get_or l i d ≡ get_or l i e
+any-default [] i d e h = absurd (omega arith)
+any-default (x ∷ l) zero d e h = refl
+any-default (x ∷ l) (suc i) d e h = any-default l i d e (omega arith)
+
+module _ (bins : List ℕ) (from to x : ℕ) (h : from ≤ to) (m : to ≤ length bins) where
+  abbrev part : List ℕ
+  part = take (to - from) (drop from bins)
+
+  part-length : length part ≡ to - from
+  part-length = length-take-le (to - from) (drop from bins) (rw (length-drop from bins) (omega arith))
+
+  part-get : (i d : ℕ) → i < length part → get_or part i d ≡ get_or bins (from + i) 0
+  part-get i d l = any-default part i d 0 l ∙ part_at from to bins i 0 (omega (arith, l, part-length))
+
+  -- those below x come first
+  pub parted : Rising bins from to → IsPartitionedBy (λ b. ltb b x) part
+  parted rise i j d a l e =
+      let low = ltb-true (get_or part j d) x e in
+      let up = rise-le bins from to (from + i) (from + j) rise (omega arith) (omega arith) (omega (arith, l, part-length)) in
+      lt-ltb (get_or part i d) x (omega (arith, low, up, part-get i d (omega arith), part-get j d l))
+
+  pub first_point : (n : ℕ) → n ≤ length part → IsPartitionPoint (λ y. ltb y x ≡ true) (λ y. ltb y x ≡ false) part n → FirstAt bins from to x (from + n)
+  first_point n k p =
+      record {
+        after = omega arith;
+        before = omega (arith, k, part-length);
+        low = λ j a b.
+            let e : from + (j - from) ≡ j = omega arith in
+            let l : j - from < length part = omega arith in
+            let v = ltb-true (get_or part (j - from) 0) x (p.0 (j - from) 0 (omega arith) (omega arith)) in
+            rw (sym e) (omega (arith, v, part-get (j - from) 0 l));
+        high = λ j a b.
+            let e : from + (j - from) ≡ j = omega arith in
+            let l : j - from < length part = omega (arith, part-length) in
+            let v = ltb-false (get_or part (j - from) 0) x (p.1 (j - from) 0 (omega arith) l) in
+            rw (sym e) (omega (arith, v, part-get (j - from) 0 l));
+      }
+
+-- none passes where no place is found
+position-None : (p : ℕ → Bool) (xs : List ℕ) (k d : ℕ) → position p xs ≡ None → k < length xs → p (get_or xs k d) ≡ false
+position-None p xs k d e h = go (ltb (position_or_len p xs) (length xs)) refl e
+  where
+    go : (t : Bool) → ltb (position_or_len p xs) (length xs) ≡ t → cond t (Some (position_or_len p xs)) None ≡ None → p (get_or xs k d) ≡ false
+    go true t e = clash false (sym (ap is_some e)) refl
+    go false t e = fails_before_first p xs k d (omega (arith, h, ltb-false (position_or_len p xs) (length xs) t))
+
+-- the first that is above x, or the end where there is none
+pub first_by : (bins : List ℕ) (from to x : ℕ) (o : Option ℕ) (r : ℕ) → Rising bins from to → from ≤ to → to ≤ length bins
+    → o ≡ position (λ b. ltb x b) (take (to - from) (drop from bins)) → MatchOption o (r ≡ to) (λ k. r ≡ from + k) → FirstAt bins from to (x + 1) r
+first_by bins from to x None r rise h m e k =
+    let part = take (to - from) (drop from bins) in
+    let len : length part ≡ to - from = length-take-le (to - from) (drop from bins) (rw (length-drop from bins) (omega arith)) in
+    first-last bins from to (x + 1) rise r (omega arith) k
+    (λ j a b.
+    let i : from + (j - from) ≡ j = omega arith in
+    let v = ltb-false x (get_or part (j - from) 0) (position-None (λ b. ltb x b) part (j - from) 0 (sym e) (omega (arith, len))) in
+    rw (sym i) (omega (arith, v, part_at from to bins (j - from) 0 (omega arith))))
+first_by bins from to x (Some n) r rise h m e k =
+    let part = take (to - from) (drop from bins) in
+    let len : length part ≡ to - from = length-take-le (to - from) (drop from bins) (rw (length-drop from bins) (omega arith)) in
+    let p = position-Some (λ b. ltb x b) part n 0 (sym e) in
+    let l : n < to - from = omega (arith, len, p.0) in
+    let here = ltb-true x (get_or part n 0) p.1 in
+    rw k (first-here bins from to (x + 1) rise (from + n) (omega arith) (omega arith)
+    (λ j a b.
+    let i : from + (j - from) ≡ j = omega arith in
+    let v = ltb-false x (get_or part (j - from) 0) (p.2 (j - from) (omega arith)) in
+    rw (sym i) (omega (arith, v, part_at from to bins (j - from) 0 (omega arith))))
+    (omega (arith, here, part_at from to bins n 0 l)))
 
 -- an index that no number of a call refuses
 

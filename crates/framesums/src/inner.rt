@@ -1,5 +1,6 @@
 // Sums over the points of a checked index: those of a frame whose bins lie in a window stand side by side.
 ghost use Rattle.std.specs.Prelude.{◌≡◌, List, cond, ◌++◌, ℕ, ◌≤◌, ◌<◌, ◌+◌, ◌-◌, ltb, length, get_or, drop};
+ghost use Rattle.std.specs.List.{position};
 ghost use Rattle.framesums.specs.Sums.{in_scans, add_points, add_frame, frame_sums};
 ghost use Rattle.frameindex.specs.FrameIndex.{index_of};
 ghost use Rattle.framesums.specs.Steps.{Rising, FirstAt, any_in, PointsOf};
@@ -30,29 +31,28 @@ pub struct Span {
     pub to: usize,
 }
 
-// 1 where a is below b, and else 0; reckoned, since at a branch on it the search would lose as much time as in all else.
+// 1 where a is below b, and else 0.
 pub fn below(a: u32, b: u32) -> usize
     ensures { result ≡ cond (ltb a b) 1 0 }
 {
-    1 - ((a as u64 + 4294967296 - b as u64) / 4294967296) as usize
+    (a < b) as usize
 }
 
-// The first place whose bin is x at least, by halving; no `partition_point`, which branches on each bin that it reads.
+// Places are those of the whole list of bins, and searches go from a place up to another: where one ends, the next begins.
+
+// The first place whose bin is x at least, by halving.
 pub fn first_at(bins: &[u32], from: usize, to: usize, x: u32) -> usize
     requires { (from ≤ to) × (to ≤ length bins.now) × Rising bins.now from to }
     ensures { FirstAt bins.now from to x result }
 {
-    if from == to {
-        return from;
-    }
-    let mut base = from;
-    let mut n = to - from;
-    while n > 1 {
-        let half = n / 2;
-        base += half * below(bins[base + half], x);
-        n -= half;
-    }
-    base + below(bins[base], x)
+    from + bins[from..to].partition_point(|&bin| bin < x)
+}
+
+// The first of some bins that is above x.
+fn place_above(bins: &[u32], x: u32) -> Option<usize>
+    ensures { result ≡ position (λ bin. ltb x bin) bins.now }
+{
+    bins.iter().position(|&bin| x < bin)
 }
 
 // The first place whose bin is above x, step by step, since windows are narrow.
@@ -60,12 +60,10 @@ pub fn first_above(bins: &[u32], from: usize, to: usize, x: u32) -> usize
     requires { (from ≤ to) × (to ≤ length bins.now) × Rising bins.now from to }
     ensures { FirstAt bins.now from to (x + 1) result }
 {
-    for i in from..to {
-        if x < bins[i] {
-            return i;
-        }
+    match place_above(&bins[from..to], x) {
+        Some(k) => from + k,
+        None => to,
     }
-    to
 }
 
 // The points of frame f whose bins lie in the window.
@@ -90,9 +88,9 @@ fn add_each(scans: &[u32], readings: &[f32], p: Span, w: Window, so: f32) -> f32
     ensures { (starts bins offsets : List ℕ) → result ≡ add_points (index_of starts bins offsets scans.now readings.now) w (p.to - p.from) p.from so }
 {
     let mut sum = so;
-    for j in p.from..p.to {
-        if w.has_scan(scans[j]) {
-            sum += readings[j];
+    for (k, &scan) in scans[p.from..p.to].iter().enumerate() {
+        if w.has_scan(scan) {
+            sum += readings[p.from + k];
         }
     }
     sum
@@ -104,8 +102,8 @@ fn any_of_eight(scans: &[u32], j: usize, w: Window) -> bool
     ensures { result ≡ any_in w scans.now 8 j }
 {
     let mut any = false;
-    for i in 0..8 {
-        any |= w.has_scan(scans[j + i]);
+    for &scan in &scans[j..j + 8] {
+        any |= w.has_scan(scan);
     }
     any
 }
@@ -144,7 +142,7 @@ pub fn put_frame_sums(ix: &CheckedIndex, from: usize, n: usize, w: Window, out: 
     ensures { out.new ≡ frame_sums ix.now w from n ++ drop n out.old }
 {
     prove!(from < ix.starts.len());
-    for k in 0..n {
-        out[k] = add_frame(ix, from + k, w, 0.0);
+    for (k, sum) in out[..n].iter_mut().enumerate() {
+        *sum = add_frame(ix, from + k, w, 0.0);
     }
 }

@@ -3,3 +3,4 @@ pub mod ViewNumber
 pub mod Answer
 pub mod ViewLaws
 pub mod Cases
+pub mod Lists

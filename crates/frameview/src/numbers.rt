@@ -9,7 +9,8 @@ ghost use Rattle.frameview.specs.ViewNumber.{checks_of, narrow, short};
 use refusal::Refusal;
 use tof::TofScale;
 
-// What reading the lists of a frame's points shows: how long they are, and whether what they hold is in range.
+// What reading the lists of a frame's points shows: how long they are, and whether what they hold is in range, a flag for each list, of
+// which any may be set.
 #[derive(Clone, Copy)]
 pub struct Seen {
     pub tofs: usize,

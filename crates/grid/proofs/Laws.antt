@@ -42,9 +42,6 @@ product_is l rows cols h = go (eqb (l % cols) 0) (eqb (l / cols) rows) refl refl
         sym (ne_eqb l (rows * cols) (λ k. eqb-false (l / cols) rows f (ap (λ (i : ℕ). i / cols) k ∙ mul-div_cancel rows h)))
     go false b e f = sym (ne_eqb l (rows * cols) (λ k. eqb-false (l % cols) 0 e (ap (λ (i : ℕ). i % cols) k ∙ mul-mod_left rows cols)))
 
-pub no-columns : (l rows : ℕ) → eqb l 0 ≡ eqb l (rows * 0)
-no-columns l rows = rw mul-zero
-
 -- sizes that number 2 lets pass, and the peaks that they allow
 pub sizes-held : (rows cols : ℕ) → (ltb 4194304 rows || ltb 16384 cols) ≡ false → (rows ≤ 4194304) × (cols ≤ 16384) × (rows * most_peaks cols ≤ 34359738368)
 sizes-held rows cols h =

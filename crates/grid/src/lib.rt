@@ -59,8 +59,8 @@ fn see(raw: &[f32], smooth: &[f32], scans: &[u32], mobility: &[f32], weights: &[
     }
 }
 
-// Writes the records of the peaks of all rows to the front of `out`, or answers with a number and leaves `out` and `scratch`
-// as they are.
+// Writes the records of the peaks of all rows to the front of `out`, or refuses and leaves `out` and `scratch` as
+// they are. It has the parameters of the Rust's function.
 pub fn detect_im_peaks_from_tof_scan_grid<'a>(
     rows: usize,
     cols: usize,

@@ -11,7 +11,8 @@ use record::{ImPeak1D, PeakId};
 use refusal::Refusal;
 use tof::TofScale;
 
-// What reading the lists of a grid shows: how long they are, and whether what they hold is in range.
+// What reading the lists of a grid shows: how long they are, and whether what they hold is in range. A flag for each number that a list
+// decides: the lists are read as words or as bytes, and one check takes what either reading saw.
 #[derive(Clone, Copy)]
 pub struct Seen {
     pub readings: usize,

@@ -3,10 +3,10 @@ use mathlib.Core.Path.{◌≡◌, refl, sym, ap, ◌∙◌}
 use mathlib.Core.Bool.{Bool, true, false, cond, ◌||◌}
 use mathlib.Core.List.{List, [], ◌++◌, append_assoc, append-nil}
 use Prim.Native.Nat.{ℕ, zero, suc, ◌+◌, ◌-◌, ◌*◌, ◌%◌, ◌^◌, ◌≤◌, ◌<◌}
-use native.Mathlib.Nat.{mul-le-mul_right, add-mul, add-zero, zero-mul, mul-zero}
+use native.Mathlib.Nat.{mul-le-mul_right, add-mul, add-zero, zero-mul, mul-zero, mul_assoc}
 use native.Mathlib.Numerals.{add-one}
 use native.Mathlib.Omega.{arith}
-use borrow.Author.Tests.{eq-eqb, ne_eqb, eqb-true, leb-true}
+use borrow.Author.Tests.{eqb-true, leb-true}
 use borrow.Rule.Slice.PartMut.{put_mid}
 use lib.Dec.{eqb}
 use lib.ListN.{length, take, drop, length-drop, length-take, length-append}
@@ -27,7 +27,6 @@ use Rattle.smoothrow.specs.SmoothRow.{searched, sound_or_none}
 use Rattle.smoothrow.proofs.Laws.{searched-length}
 use Rattle.row.proofs.RowWords.{row-words-length}
 use Rattle.row.specs.Written.{Written, stride}
-use Rattle.row.specs.Steps as row
 use Rattle.row.proofs.Laws.{put-none, put-length}
 use Rattle.row.proofs.Laws as rows
 use Rattle.tof.specs.Tof.{row_place}
@@ -35,12 +34,6 @@ use Rattle.gridrows.specs.Grid.{Grid, used_of, row_of, listed_in, words_in, coun
 use Rattle.gridrows.specs.Steps.{Handed, RowPut, RowReady, RowDone, Ready, Done, numbered}
 
 -- ---- which readings are worked on
-pub smooth-used : (raw smooth : List Float) → length raw ≡ 0 → used_of raw smooth ≡ smooth
-smooth-used raw smooth h = rw (eq-eqb (length raw) 0 h)
-
-pub raw-used : (raw smooth : List Float) → (length raw ≡ 0 → ⊥) → used_of raw smooth ≡ raw
-raw-used raw smooth h = rw (ne_eqb (length raw) 0 h)
-
 pub used_le : (raw smooth : List Float) → length (used_of raw smooth) ≤ length raw + length smooth
 used_le raw smooth = go (eqb (length raw) 0)
   where
@@ -50,17 +43,8 @@ used_le raw smooth = go (eqb (length raw) 0)
 
 -- ---- one row
 
--- what writing the records asks does not depend on what is searched
-pub ready_for : (y z : List Float) (axis : List ℕ) (first room : ℕ) → length y ≡ length z → row.Writable z z axis first room → row.Writable y z axis first room
-ready_for y z axis first room e r =
-    record { raw = sym e; scans = r.scans ∙ sym e; short = rw e r.short; words = rw e r.words; ids = rw e r.ids }
-
-module _ (w : Written) (place : RowPlace) (bounds : FrameBounds) (mobility : List Float) (p : ImDetectParams) (axis : List ℕ) (weights z : List Float) (first : ℕ) where
-  pub listed_by : (y : List Float) (d out : List ℕ) (n : ℕ) → searched weights z ≡ y → row.RecordsPut w place bounds mobility axis y z first d out n (kept p y z)
-      → RowPut w place bounds mobility p axis weights z first d out n
-  listed_by y d out n e l = record { count = rw e l.count; words = rw e l.front }
-
-  pub listed-none : (d : List ℕ) → kept p (searched weights z) z ≡ [] → RowPut w place bounds mobility p axis weights z first d d 0
+module _ {T : Type 0} (w : Written T) (place : RowPlace) (bounds : FrameBounds) (mobility : List Float) (p : ImDetectParams) (axis : List ℕ) (weights z : List Float) (first : ℕ) where
+  pub listed-none : (d : List T) → kept p (searched weights z) z ≡ [] → RowPut w place bounds mobility p axis weights z first d d 0
   listed-none d e =
       let l = rows.listed-none place bounds mobility axis (searched weights z) z first w d in
       record { count = rw e; words = rw e l.front }
@@ -86,11 +70,12 @@ module _ (g : Grid) (r room : ℕ) (h : RowReady g r room) where
         row = record { raw = refl; scans = h.scans ∙ sym l; short = rw l h.short; words = rw l h.words; ids = rw l h.ids };
       }
 
-  pub row_done : (w : Written) (place : RowPlace) (z : List Float) (d out : List ℕ) (n : ℕ) → z ≡ row_of g r → place ≡ row_place g.scale r
-      → RowPut w place g.bounds g.mobility g.params g.scans g.weights z g.first d out n → RowDone w g r d out n
+  pub row_done : {T : Type 0} (w : Written T) (place : RowPlace) (bounds : FrameBounds) (mobility z : List Float) (axis : List ℕ) (d out : List T) (n : ℕ)
+      → z ≡ row_of g r → place ≡ row_place g.scale r → bounds ≡ g.bounds → mobility ≡ g.mobility → axis ≡ g.scans
+      → RowPut w place bounds mobility g.params axis g.weights z g.first d out n → RowDone w g r d out n
   unfolding listed_in
-  row_done w place z d out n e f l =
-      let k : RowPut w (row_place g.scale r) g.bounds g.mobility g.params g.scans g.weights (row_of g r) g.first d out n = rw (e, f) at l in
+  row_done w place bounds mobility z axis d out n e f b m a l =
+      let k : RowPut w (row_place g.scale r) g.bounds g.mobility g.params g.scans g.weights (row_of g r) g.first d out n = rw (e, f, b, m, a) at l in
       record { count = k.count; words = k.words }
 
 -- ---- some rows of a grid
@@ -150,16 +135,12 @@ words-join g from a (suc b) =
     (append_assoc (words_from g from a) (words_from (numbered g (g.first + count_from g from a)) (from + a) b) (words_in g (from + a + b) (g.first + count_from g from a + count_from g (from + a) b)))
 
 -- before the first row
-pub done-start : (w : Written) (g : Grid) (from : ℕ) (d : List ℕ) → Done w g from from d d 0
+pub done-start : {T : Type 0} (w : Written T) (g : Grid) (from : ℕ) (d : List T) → Done w g from from d d 0
 unfolding count_from words_from
 done-start w g from d = let e : from - from ≡ 0 = omega arith in record { count = rw e; words = rw (e, put-none w, zero-mul (stride w)) }
 
--- after the last one
-pub done_end : (w : Written) (g : Grid) (from to r : ℕ) (d out : List ℕ) (n : ℕ) → r - from ≡ to - from → Done w g from r d out n → Done w g from to d out n
-done_end w g from to r d out n e h = record { count = rw e at h.count; words = rw e at h.words }
-
 -- words written behind those that stand at the front of d, through the part of the list behind them
-put-behind : (w : Written) (W R d out last : List ℕ) (n m : ℕ) → length W ≡ n * size → out ≡ w.put W ++ drop (n * stride w) d
+put-behind : {T : Type 0} (w : Written T) (W R : List ℕ) (d out last : List T) (n m : ℕ) → length W ≡ n * size → out ≡ w.put W ++ drop (n * stride w) d
     → last ≡ w.put R ++ drop (m * stride w) (take (length out - n * stride w) (drop (n * stride w) out))
     → put_mid (n * stride w) (length out - n * stride w) out last ≡ w.put (W ++ R) ++ drop ((n + m) * stride w) d
 put-behind w W R d out last n m h a b =
@@ -191,6 +172,20 @@ module _ (g : Grid) (from to room : ℕ) (h : Ready g from to room) (r n : ℕ) 
   pub turn-room : n * size + most_peaks g.cols * size ≤ room
   turn-room = omega (arith, turn-most, h.words)
 
+  -- where the next record stands in a list with room for all of them, and what is left behind that place
+  pub turn-fits : {T : Type 0} (w : Written T) (long : ℕ) → room * w.unit ≤ long
+      → (n * stride w ≤ long) × ((room - n * size) * w.unit ≤ long - n * stride w)
+  turn-fits w long f =
+      let left = room - n * size in
+      let e : room ≡ n * size + left = omega (arith, turn-room) in
+      let s : room * w.unit ≡ n * stride w + left * w.unit =
+      ap (λ (i : ℕ). i * w.unit) e ∙ add-mul (n * size) left w.unit ∙ ap (λ (i : ℕ). i + left * w.unit) (mul_assoc n size w.unit) in
+      (omega (arith, s, f), omega (arith, s, f))
+
+  -- the same place, where a record takes K places
+  pub turn-at : {T : Type 0} (w : Written T) (K lent long : ℕ) → K ≡ stride w → room * w.unit ≤ lent → long ≡ lent → n * K ≤ long
+  turn-at w K lent long e f l = rw (e, l) (turn-fits w lent f).0
+
   -- `left` words are left behind those of the n peaks
   pub turn-ready : (left : ℕ) → room ≤ n * size + left → RowReady (numbered g (g.first + n)) r left
   turn-ready left l =
@@ -207,7 +202,7 @@ module _ (g : Grid) (from to room : ℕ) (h : Ready g from to room) (r n : ℕ) 
         ids = omega (arith, turn-most, h.ids);
       }
 
-  pub turn-done : (w : Written) (d out last : List ℕ) (m : ℕ) → Done w g from r d out n
+  pub turn-done : {T : Type 0} (w : Written T) (d out last : List T) (m : ℕ) → Done w g from r d out n
       → RowDone w (numbered g (g.first + n)) r (take (length out - n * stride w) (drop (n * stride w) out)) last m
       → Done w g from (r + 1) d (put_mid (n * stride w) (length out - n * stride w) out last) (n + m)
   unfolding count_from words_from listed_in
@@ -264,7 +259,7 @@ module _ (g : Grid) (from mid to room : ℕ) (h : Ready g from to room) (low : f
           ids = omega (arith, both-parts, few-first, h.ids);
         }
 
-    pub done-join : (w : Written) (d out last : List ℕ) (m : ℕ) → Done w g from mid d out n
+    pub done-join : {T : Type 0} (w : Written T) (d out last : List T) (m : ℕ) → Done w g from mid d out n
         → Done w (numbered g (g.first + n)) mid to (take (length out - n * stride w) (drop (n * stride w) out)) last m
         → Done w g from to d (put_mid (n * stride w) (length out - n * stride w) out last) (n + m)
     done-join w d out last m a b =

@@ -41,7 +41,18 @@ abbrev pub grid_in : GridCall → List Float → Grid
 grid_in c weights =
     call_grid c.cols c.raw.now c.smooth.now c.scans.now c.scale c.bounds c.mobility.now c.params weights c.first
 
+-- the same grid with weights
+abbrev pub with_weights : List Float → Grid → Grid
+with_weights weights g = grid_of g.cols g.used g.scans g.scale g.bounds g.mobility g.params weights g.first
+
 -- ---- one row
+
+-- row r of a grid can be read: its readings, and its bin, are there
+pub record Held (g : Grid) (r : ℕ) : Type 0 where
+  pub readings : r * g.cols + g.cols ≤ length g.used
+  pub ranged : all_in_range max_reading g.used ≡ true
+  pub scale : Sound g.scale
+  pub bin : r < g.scale.num_bins
 
 -- A row z that is handed in: what its search asks, and what writing its records asks, with room for so many words.
 pub record Handed (z : List Float) (axis : List ℕ) (weights : List Float) (first room scratch samples : ℕ) : Type 0 where
@@ -49,7 +60,7 @@ pub record Handed (z : List Float) (axis : List ℕ) (weights : List Float) (fir
   pub row : row.Writable z z axis first room
 
 -- what is left of a row z of which n peaks are listed; `out₀` is what was lent
-pub record RowPut (w : Written) (place : RowPlace) (bounds : FrameBounds) (mobility : List Float) (p : ImDetectParams) (axis : List ℕ) (weights z : List Float) (first : ℕ) (out₀ out : List ℕ) (n : ℕ) : Type 0 where
+pub record RowPut {T : Type 0} (w : Written T) (place : RowPlace) (bounds : FrameBounds) (mobility : List Float) (p : ImDetectParams) (axis : List ℕ) (weights z : List Float) (first : ℕ) (out₀ out : List T) (n : ℕ) : Type 0 where
   pub count : n ≡ length (kept p (searched weights z) z)
   pub words : out ≡ w.put (row_words place bounds mobility axis (searched weights z) z first (kept p (searched weights z) z)) ++ drop (n * stride w) out₀
 
@@ -66,7 +77,7 @@ pub record RowReady (g : Grid) (r room : ℕ) : Type 0 where
   pub ids : g.first + most_peaks g.cols ≤ identities
 
 -- what is left of row r, of which n peaks are listed
-pub record RowDone (w : Written) (g : Grid) (r : ℕ) (out₀ out : List ℕ) (n : ℕ) : Type 0 where
+pub record RowDone {T : Type 0} (w : Written T) (g : Grid) (r : ℕ) (out₀ out : List T) (n : ℕ) : Type 0 where
   pub count : n ≡ length (listed_in g r)
   pub words : out ≡ w.put (words_in g r g.first) ++ drop (n * stride w) out₀
 
@@ -90,6 +101,6 @@ pub record Ready (g : Grid) (from to room : ℕ) : Type 0 where
   pub ids : g.first + (to - from) * most_peaks g.cols ≤ identities
 
 -- what is left of those rows, of which n peaks are listed
-pub record Done (w : Written) (g : Grid) (from to : ℕ) (out₀ out : List ℕ) (n : ℕ) : Type 0 where
+pub record Done {T : Type 0} (w : Written T) (g : Grid) (from to : ℕ) (out₀ out : List T) (n : ℕ) : Type 0 where
   pub count : n ≡ count_from g from (to - from)
   pub words : out ≡ w.put (words_from g from (to - from)) ++ drop (n * stride w) out₀

@@ -3,8 +3,8 @@ use params::{FrameBounds, ImDetectParams};
 use record::PeakId;
 use tof::TofScale;
 
-// The readings row after row, raw ones where there are any and else the smoothed ones, the scan of each column, the scale with a bin for each
-// row, the frames that were summed, the mobility of each column or none, parameters and the first identity.
+// The readings row after row, raw ones where there are any and else the smoothed ones, the scan of each column, the scale with a bin for
+// each row, the frames that were summed, the mobility of each column or none, parameters and the first identity.
 #[derive(Clone, Copy)]
 pub struct GridCall<'a> {
     pub cols: usize,

@@ -4,3 +4,4 @@
 pub mod call;
 pub mod rows;
 pub mod sized;
+pub mod source;

@@ -1,14 +1,16 @@
 // The rows of a grid, one after another.
-ghost use Rattle.std.specs.Prelude.{◌≡◌, ◌≤◌, ◌+◌, ◌*◌, length, take, drop};
-ghost use Rattle.row.specs.Written.{as_words};
+ghost use Rattle.std.specs.Prelude.{◌≡◌, ℕ, ◌≤◌, ◌+◌, ◌*◌, [], length, take, drop};
 ghost use Rattle.gridrows.specs.Grid.{used_of};
-ghost use Rattle.gridrows.specs.Steps.{grid_in, numbered, Handed, RowPut, RowReady, RowDone, Ready, Done};
+ghost use Rattle.gridrows.specs.Steps.{grid_in, with_weights, numbered, Handed, RowPut, RowReady, RowDone, Ready, Done};
 
 use super::call::GridCall;
-use params::RowPlace;
-use record::{ImPeak1D, PeakId};
+use super::source::Source;
+use params::ImDetectParams;
+use record::PeakId;
+use row::column::Column;
+use row::inner::Row;
+use row::written::{AsWords, Written};
 use rowsearch::scratch::Scratch;
-use smoothrow::inner::Sought;
 use smoothrow::kernel::Kernel;
 
 // The n readings from `at` on of those that are worked on.
@@ -22,99 +24,114 @@ pub fn row_part<'a>(raw: &'a [f32], smooth: &'a [f32], at: usize, n: usize) -> &
     &raw[at..at + n]
 }
 
-// Writes the records of the peaks of a row z, smoothed into `y` where weights are given, to the front of `out`, and answers how many there
-// are.
-fn list_row(
-    z: &[f32],
-    place: RowPlace,
-    call: &GridCall<'_>,
-    kernel: &Kernel<'_>,
-    first: PeakId,
-    out: &mut [u32],
-    y: &mut [f32],
-    scratch: &mut Scratch<'_>,
-) -> usize
-    requires { Handed z.now call.now.scans.now kernel.now.weights.now first (length out.old) (length y.old) scratch.old.samples }
-    ensures listed { RowPut as_words place call.now.bounds call.now.mobility.now call.now.params call.now.scans.now kernel.now.weights.now z.now first out.old out.new result }
-    ensures past { drop (length z.now) y.new ≡ drop (length z.now) y.old }
-    ensures samples { scratch.new.samples ≡ scratch.old.samples }
-{
-    let sought = smoothrow::inner::search_row(z, call.params, kernel, y, scratch);
-    match sought {
-        Sought::Nothing => 0,
-        Sought::Raw(n) => {
-            row::inner::put_peaks(
-                scratch.found,
-                n,
-                z,
-                z,
-                place,
-                call.bounds,
-                call.mobility,
-                call.scans,
-                first,
-                out,
-            );
-            n
-        }
-        Sought::Smoothed(n) => {
-            let cols = z.len();
-            row::inner::put_peaks(
-                scratch.found,
-                n,
-                &y[..cols],
-                z,
-                place,
-                call.bounds,
-                call.mobility,
-                call.scans,
-                first,
-                out,
-            );
-            n
+// The readings are taken where they stand.
+impl<'a> Source for GridCall<'a> {
+    type Mobility = &'a [f32];
+
+    type Axis = &'a [u32];
+
+    type Form = AsWords;
+
+    ghost grid = { λ c. grid_in c [] };
+
+    ghost spare = { λ c. 0 };
+
+    ghost Reads = { λ c r z. length z ≡ 0 };
+
+    fn params(&self) -> ImDetectParams {
+        self.params
+    }
+
+    fn first(&self) -> PeakId {
+        self.first
+    }
+
+    fn read(&self, _r: usize, _z: &mut [f32]) {}
+
+    fn row<'r>(&'r self, r: usize, _z: &'r [f32]) -> Row<'r, &'a [f32], &'a [u32]> {
+        let z = row_part(self.raw, self.smooth, r * self.cols, self.cols);
+        Row {
+            y: z,
+            z,
+            place: tof::inner::row_place(self.scale, r as u32),
+            bounds: self.bounds,
+            mobility: self.mobility,
+            axis: self.scans,
         }
     }
 }
 
-// The records of the peaks of row r, with identities from `first` on.
-pub fn detect_row(
-    call: &GridCall<'_>,
+// Writes the records of the peaks of a row, smoothed into `y` where weights are given, to the front of `out`, and answers how many there
+// are.
+fn list_row<M: Column<f32>, S: Column<u32>, W: Written>(
+    row: &Row<'_, M, S>,
+    p: ImDetectParams,
+    kernel: &Kernel<'_>,
+    first: PeakId,
+    out: &mut [W::Place],
+    y: &mut [f32],
+    scratch: &mut Scratch<'_>,
+) -> usize
+    requires { (room : ℕ) × (room * W.form.unit ≤ length out.old) × Handed row.now.z.now (S.items row.now.axis) kernel.now.weights.now first room (length y.old) scratch.old.samples }
+    ensures listed { RowPut W.form row.now.place row.now.bounds (M.items row.now.mobility) p (S.items row.now.axis) kernel.now.weights.now row.now.z.now first out.old out.new result }
+    ensures past { drop (length row.now.z.now) y.new ≡ drop (length row.now.z.now) y.old }
+    ensures samples { scratch.new.samples ≡ scratch.old.samples }
+{
+    let Some(n) = smoothrow::inner::search_row(row.z, p, kernel, y, scratch) else {
+        return 0;
+    };
+    let searched = Row {
+        y: smoothrow::inner::samples(kernel, row.z, y),
+        ..*row
+    };
+    searched.put_peaks::<W>(scratch.found, n, first, out);
+    n
+}
+
+// The records of the peaks of row r, with identities from `first` on. z is scratch for its readings.
+pub fn detect_row<G: Source>(
+    grid: &G,
     kernel: &Kernel<'_>,
     r: usize,
     first: PeakId,
-    out: &mut [u32],
+    out: &mut [<G::Form as Written>::Place],
+    z: &mut [f32],
     y: &mut [f32],
     scratch: &mut Scratch<'_>,
 ) -> usize
-    requires { RowReady (numbered (grid_in call.now kernel.now.weights.now) first) r (length out.old) × (call.now.cols ≤ length y.old) × (call.now.cols ≤ scratch.old.samples) }
-    ensures done { RowDone as_words (numbered (grid_in call.now kernel.now.weights.now) first) r out.old out.new result }
-    ensures past { drop call.now.cols y.new ≡ drop call.now.cols y.old }
+    requires row { (room : ℕ) × (room * G.Form.form.unit ≤ length out.old) × RowReady (numbered (with_weights kernel.now.weights.now (G.grid grid.now)) first) r room }
+    requires lent { (length z.old ≡ G.spare grid.now) × ((G.grid grid.now).cols ≤ length y.old) × ((G.grid grid.now).cols ≤ scratch.old.samples) }
+    ensures done { RowDone G.Form.form (numbered (with_weights kernel.now.weights.now (G.grid grid.now)) first) r out.old out.new result }
+    ensures past { drop (G.grid grid.now).cols y.new ≡ drop (G.grid grid.now).cols y.old }
     ensures samples { scratch.new.samples ≡ scratch.old.samples }
 {
-    let z = row_part(call.raw, call.smooth, r * call.cols, call.cols);
-    let place = tof::inner::row_place(call.scale, r as u32);
-    list_row(z, place, call, kernel, first, out, y, scratch)
+    grid.read(r, z);
+    let row = grid.row(r, z);
+    list_row::<_, _, G::Form>(&row, grid.params(), kernel, first, out, y, scratch)
 }
 
-// The records of the peaks of the rows from `from` to `to`, one row after another.
-pub fn detect_rows(
-    call: &GridCall<'_>,
+// The records of the peaks of the rows from `from` to `to`, one row after another. A row is asked for by its number: there is no list of
+// rows to walk over.
+pub fn detect_rows<G: Source>(
+    grid: &G,
     kernel: &Kernel<'_>,
     from: usize,
     to: usize,
-    out: &mut [u32],
+    out: &mut [<G::Form as Written>::Place],
+    z: &mut [f32],
     y: &mut [f32],
     scratch: &mut Scratch<'_>,
 ) -> usize
-    requires { Ready (grid_in call.now kernel.now.weights.now) from to (length out.old) × (call.now.cols ≤ length y.old) × (call.now.cols ≤ scratch.old.samples) }
-    ensures done { Done as_words (grid_in call.now kernel.now.weights.now) from to out.old out.new result }
-    ensures past { drop call.now.cols y.new ≡ drop call.now.cols y.old }
+    requires rows { (room : ℕ) × (room * G.Form.form.unit ≤ length out.old) × Ready (with_weights kernel.now.weights.now (G.grid grid.now)) from to room }
+    requires lent { (length z.old ≡ G.spare grid.now) × ((G.grid grid.now).cols ≤ length y.old) × ((G.grid grid.now).cols ≤ scratch.old.samples) }
+    ensures done { Done G.Form.form (with_weights kernel.now.weights.now (G.grid grid.now)) from to out.old out.new result }
+    ensures past { drop (G.grid grid.now).cols y.new ≡ drop (G.grid grid.now).cols y.old }
 {
     let mut n = 0usize;
     for r in from..to {
-        let at = n * ImPeak1D::WORDS;
-        let id = call.first + n as PeakId;
-        n += detect_row(call, kernel, r, id, &mut out[at..], y, scratch);
+        let at = n * G::Form::PLACES;
+        let id = grid.first() + n as PeakId;
+        n += detect_row(grid, kernel, r, id, &mut out[at..], z, y, scratch);
     }
     n
 }

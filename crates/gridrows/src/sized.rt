@@ -8,8 +8,8 @@ use super::call::GridCall;
 use rowsearch::scratch::Scratch;
 use smoothrow::kernel::Kernel;
 
-// The records of the peaks of the rows from `from` to `to`, with room for the search of rows of N samples. It is no part of its callers, so that
-// each has the stack of one size alone.
+// The records of the peaks of the rows from `from` to `to`, with room for the search of rows of N samples. It is no part of its callers,
+// so that each has the stack of one size alone. There is no heap, so the lists stand in its frame, as those of `row::inner::list_in` do.
 #[inline(never)]
 fn detect_in<const N: usize, const B: usize, const F: usize>(
     call: &GridCall<'_>,
@@ -33,11 +33,11 @@ fn detect_in<const N: usize, const B: usize, const F: usize>(
         bases: &mut bases,
         found: &mut found,
     };
-    super::rows::detect_rows(call, kernel, from, to, out, y, &mut scratch)
+    super::rows::detect_rows(call, kernel, from, to, out, &mut [], y, &mut scratch)
 }
 
-// The records of the peaks of the rows from `from` to `to`, for rows of at most 16,384 samples, smoothed by the weights where there are any. `y` is
-// scratch for a smoothed row.
+// The records of the peaks of the rows from `from` to `to`, for rows of at most 16,384 samples, smoothed by the weights where there are
+// any. `y` is scratch for a smoothed row.
 pub fn detect(
     call: &GridCall<'_>,
     weights: &[f32],

@@ -7,17 +7,19 @@ use mathlib.Core.List.{List, [], ◌∷◌, ◌++◌, map, reverse, reverse-cons
 use Prim.Native.Nat.{ℕ, suc, ◌+◌, ◌-◌, ◌*◌, ◌<◌, ◌≤◌}
 use native.Mathlib.Omega.{arith}
 use native.Mathlib.Numerals.{add-one}
+use Rattle.std.proofs.lemmas.List.{get_or-map}
 use lib.ListN.{length, get_or, take, drop, set, length-append, length-map, length-drop, drop_of_length-le, take-append-drop}
-use lib.Seq.{take-suc, get_or-drop, drop-cons, take_at, drop-append-add, drop-drop}
+use lib.Seq.{take-suc, get_or-drop, get_or-take, length-take-le, drop-cons, take_at, drop-append-add, drop-drop}
 use borrow.Author.Tests.{eqb-true}
 use lib.Dec.{eqb}
 use Rattle.std.specs.Prelude.{Option, Some, None, nat_eq}
 use Rattle.std.specs.Option.{option_eq}
 use Rattle.refusal.proofs.Bools.{both}
-use Rattle.record.specs.Record.{size, words_of, with_peak}
+use Rattle.record.specs.Record.{size, peak_at, words_of, with_peak}
 use Rattle.record.specs.declared.ImPeak1D.{ImPeak1D}
-use Rattle.peaklist.specs.PeakList.{nth, list_words}
-use Rattle.peaklist.proofs.PeakListLaws.{words-length, words-one}
+use Rattle.peaklist.specs.PeakList.{no_peak, nth, peaks_of, list_words}
+use Rattle.peaklist.proofs.PeakListLaws.{peaks-length, nth-peaks, same-peaks, words-length, words-one}
+use Rattle.record.proofs.RoundTrip.{own-words}
 use Rattle.matching.specs.declared.StitchParams.{StitchParams}
 use Rattle.matching.specs.declared.inner.Spans.{Spans}
 use Rattle.matching.specs.Group.{Covers, may_join}
@@ -26,7 +28,7 @@ use Rattle.keys.specs.declared.inner.Bucket.{Bucket}
 use Rattle.keys.specs.Keys.{is_same_bucket}
 use Rattle.merging.specs.Merging.{merged}
 use Rattle.grouping.specs.Grouping.{bucket_by, peaks_at, follows, groups_from, groups, group_peaks}
-use Rattle.grouping.specs.Walk.{part, Columned, Cut, numbered, marked, Grouped}
+use Rattle.grouping.specs.Walk.{part, Gathered, Columned, Cut, numbered, marked, Grouped}
 use Rattle.grouping.proofs.GroupingLaws.{groups-join, groups-close}
 
 -- ---- lists
@@ -96,6 +98,33 @@ part-more order i k h l =
 
 pub part-first : (order : List ℕ) (i : ℕ) → i < length order → part order i (i + 1) ≡ get_or order i 0 ∷ []
 part-first order i l = part-more order i i (omega arith) l ∙ ap (λ (g : List ℕ). g ++ (get_or order i 0 ∷ [])) (part_none order i)
+
+-- the peaks of records, from the first on
+pub first-peak : (words : List ℕ) → peaks_of words 1 ≡ peak_at words 0 ∷ []
+unfolding peaks_of
+first-peak words = refl
+
+pub next-peaks : (words : List ℕ) (n : ℕ) → peaks_of words (n + 1) ≡ peaks_of words n ++ (peak_at words n ∷ [])
+unfolding peaks_of
+next-peaks words n = rw add-one refl
+
+-- the records of a part of an order are those of its peaks
+pub part-peaks : (ps : List ImPeak1D) (sorted order : List ℕ) (i k : ℕ) → i ≤ k → k ≤ length order → k * size ≤ length sorted → Gathered ps sorted order
+    → (n : ℕ) → n ≡ k - i → peaks_of (take (k * size - i * size) (drop (i * size) sorted)) n ≡ peaks_at ps (part order i k)
+unfolding part
+part-peaks ps sorted order i k a b h g n e =
+    let records = take (k * size - i * size) (drop (i * size) sorted) in
+    let places = take (k - i) (drop i order) in
+    let many : length places ≡ n = length-take-le (k - i) (drop i order) (omega (arith, length-drop i order)) ∙ sym e in
+    same-peaks (peaks_of records n) (map (nth ps) places) (peaks-length records n ∙ sym many ∙ sym (length-map places (nth ps))) (λ j l.
+    let inside : j < n = omega (arith, l, peaks-length records n) in
+    nth-peaks records n j inside
+    ∙ own-words records sorted (j * size) ((i + j) * size) (λ d m.
+    let at : i * size + (j * size + d) ≡ (i + j) * size + d = omega arith in
+    get_or-take (k * size - i * size) (drop (i * size) sorted) (j * size + d) 0 (omega (arith, inside, e)) ∙ get_or-drop (i * size) sorted (j * size + d) 0 ∙ ap (λ x. get_or sorted x 0) at)
+    ∙ g (i + j) (omega (arith, inside, e))
+    ∙ ap (nth ps) (sym (get_or-take (k - i) (drop i order) j 0 (omega (arith, inside, e)) ∙ get_or-drop i order j 0))
+    ∙ sym (get_or-map (nth ps) places j 0 no_peak (omega (arith, inside, many))))
 
 -- a part of places that a column has
 pub columned-part : (column order : List ℕ) (i n : ℕ) → Columned column order → Columned column (take n (drop i order))

@@ -1,13 +1,14 @@
 // One walk over peaks in their order, group by group: where a group ends is found first, from what the tests look at alone; then its
 // peaks, which are near at hand, are merged.
-ghost use Rattle.std.specs.Prelude.{◌≡◌, List, ℕ, ◌≤◌, ◌<◌, ◌+◌, ◌*◌, length};
+ghost use Rattle.std.specs.Prelude.{◌≡◌, List, ℕ, ◌≤◌, ◌<◌, ◌+◌, ◌*◌, ◌/◌, length};
 ghost use Rattle.record.specs.Record.{size, with_peak};
 ghost use Rattle.record.specs.declared.ImPeak1D.{ImPeak1D as PeakT};
 ghost use Rattle.keys.specs.Keys.{is_same_bucket};
 ghost use Rattle.merging.specs.Merging.{merged as mergedPeak};
 ghost use Rattle.merging.specs.Walk.{Holds};
-ghost use Rattle.grouping.specs.Grouping.{bucket_by, peaks_at};
-ghost use Rattle.grouping.specs.Walk.{part, Cut, Gathered, Columned, numbered, Grouped};
+ghost use Rattle.grouping.specs.Grouping.{bucket_by};
+ghost use Rattle.peaklist.specs.PeakList.{peaks_of};
+ghost use Rattle.grouping.specs.Walk.{Cut, Gathered, Columned, numbered, Grouped};
 
 use keys::KeyRule;
 use keys::inner::Bucket;
@@ -42,7 +43,7 @@ fn is_of_bucket(b: Bucket, p: ImPeak1D, rule: KeyRule) -> bool
     }
 }
 
-// Where the group ends that starts at place i of n peaks.
+// Where the group ends that starts at place i of n peaks. The count is that of the places, which the caller has; `sorted` may go on behind.
 fn group_end(sorted: &[u32], n: usize, i: usize, rule: KeyRule, params: StitchParams) -> usize
     requires { (i < n) × (n * size ≤ length sorted.now) }
     ensures { (i < result) × (result ≤ n) × ((ps : List PeakT) (order : List ℕ) → length order ≡ n → Gathered ps sorted.now order → Cut rule params ps order i result) }
@@ -50,6 +51,7 @@ fn group_end(sorted: &[u32], n: usize, i: usize, rule: KeyRule, params: StitchPa
     let first = record::inner::peak_at(sorted, i);
     let bucket = bucket_by(first, rule);
     let mut spans = Spans::of_one(first);
+    // the place at which a test fails is the answer, and a test looks at a place and the one before it
     for k in i + 1..n {
         if !is_of_bucket(bucket, record::inner::peak_at(sorted, k), rule) {
             return k;
@@ -62,14 +64,15 @@ fn group_end(sorted: &[u32], n: usize, i: usize, rule: KeyRule, params: StitchPa
     n
 }
 
-// What the merge of the peaks from place i to before `end` keeps of them.
-fn gather_part(sorted: &[u32], i: usize, end: usize) -> Merging
-    requires { (i < end) × (end * size ≤ length sorted.now) }
-    ensures { (ps : List PeakT) (order : List ℕ) → end ≤ length order → Gathered ps sorted.now order → Holds result (peaks_at ps (part order i end)) }
+// What the merge of the peaks of some records keeps of them; there is one at least.
+fn gather_part(records: &[u32]) -> Merging
+    requires { size ≤ length records.now }
+    ensures { Holds result (peaks_of records.now (length records.now / size)) }
 {
-    let mut m = Merging::start(record::inner::peak_at(sorted, i));
-    for k in i + 1..end {
-        m = m.join(record::inner::peak_at(sorted, k));
+    let (first, rest) = records.split_at(ImPeak1D::WORDS);
+    let mut m = Merging::start(record::inner::peak_at(first, 0));
+    for words in rest.chunks_exact(ImPeak1D::WORDS) {
+        m = m.join(record::inner::peak_at(words, 0));
     }
     m
 }
@@ -114,7 +117,8 @@ pub fn put_groups(
     while i < n {
         let end = group_end(sorted, n, i, rule, params);
         put_number(&order[i..end], number as u32, column);
-        put_merged(merged, number, gather_part(sorted, i, end));
+        let records = &sorted[i * ImPeak1D::WORDS..end * ImPeak1D::WORDS];
+        put_merged(merged, number, gather_part(records));
         number += 1;
         i = end;
     }

@@ -77,6 +77,15 @@ impl<'a> Reading<'a> {
         &self.words[..self.count]
     }
 
+    // The whole words, when the line is done with: the front of the list that was lent.
+    pub fn into_words(self) -> &'a [u32]
+        ensures { result.now ≡ self.entry.line.words }
+    {
+        let n = self.count;
+        let words = self.words;
+        &words[..n]
+    }
+
     #[tactic(auto, unfolding(crate::specs::Lines::has_ended))]
     pub fn has_ended(&self) -> bool
         ensures { result ≡ has_ended self.now.line }

@@ -1,7 +1,6 @@
 // Parts of a line. Past the end of a line every word is 0.
-ghost use Rattle.std.specs.Prelude.{◌≡◌, ℕ, ◌+◌, ◌^◌, ◌≤◌, ◌<◌, List, length, take, slice_index, slice_index_or, from_bits};
-ghost use Rattle.std.specs.Float.{binary32};
-ghost use Rattle.hexlines.specs.Parts.{after, between, float_in};
+ghost use Rattle.std.specs.Prelude.{◌≡◌, ◌↔◌, ℕ, ◌≤◌, ◌<◌, length, take, slice_index, slice_index_or, IsSome, MatchOption};
+ghost use Rattle.hexlines.specs.Parts.{IsLeft, float_in};
 
 pub fn word(words: &[u32], i: usize) -> u32
     ensures { result ≡ slice_index words.now i }
@@ -9,28 +8,46 @@ pub fn word(words: &[u32], i: usize) -> u32
     words.get(i).copied().unwrap_or(0)
 }
 
-// The end of a list that starts at a place and whose length is word i; past every line where the line is too short.
-pub fn after<const ROOM: usize>(words: &[u32], i: usize, at: usize) -> usize
-    requires { ROOM + ROOM < 2 ^ 64 }
-    ensures end { result ≡ after ROOM at (slice_index words.now i) }
-    ensures bound { result ≤ ROOM + ROOM }
-{
-    let n = word(words, i) as usize;
-    if at <= ROOM && n <= ROOM {
-        at + n
-    } else {
-        ROOM + ROOM
-    }
+// What is left of a line that is taken apart from its front: its words, and floats at the same places.
+#[derive(Clone, Copy)]
+pub struct Line<'a> {
+    words: &'a [u32],
+    floats: &'a [f32],
 }
 
-// The list between two places, empty where there is none.
-pub fn between<T>(list: &[T], from: usize, to: usize) -> &[T]
-    ensures { result.now ≡ between from to list.now }
-{
-    if from <= to && to <= list.len() {
-        &list[from..to]
-    } else {
-        &list[..0]
+impl<'a> Line<'a> {
+    pub fn new(words: &'a [u32], floats: &'a [f32]) -> Line<'a>
+        ensures { (result.words.now ≡ words.now) × (result.floats.now ≡ floats.now) }
+    {
+        Line { words, floats }
+    }
+
+    // All words that are left.
+    pub fn rest(self) -> &'a [u32]
+        ensures { result.now ≡ self.entry.words.now }
+    {
+        self.words
+    }
+
+    // Takes the next n words; None, and nothing is taken, where the line is too short.
+    pub fn take_words(&mut self, n: usize) -> Option<&'a [u32]>
+        ensures enough { IsSome result ↔ (n ≤ length self.old.words.now) × (n ≤ length self.old.floats.now) }
+        ensures taken { MatchOption result (IsLeft 0 self.old self.new) (λ list. (list.now ≡ take n self.old.words.now) × IsLeft n self.old self.new) }
+    {
+        let floats = self.floats.get(n..)?;
+        let list = self.words.split_off(..n)?;
+        self.floats = floats;
+        Some(list)
+    }
+
+    // Takes the same places as floats.
+    pub fn take_floats(&mut self, n: usize) -> Option<&'a [f32]>
+        ensures enough { IsSome result ↔ (n ≤ length self.old.words.now) × (n ≤ length self.old.floats.now) }
+        ensures taken { MatchOption result (IsLeft 0 self.old self.new) (λ list. (list.now ≡ take n self.old.floats.now) × IsLeft n self.old self.new) }
+    {
+        let floats = self.floats.get(..n)?;
+        self.take_words(n)?;
+        Some(floats)
     }
 }
 

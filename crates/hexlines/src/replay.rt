@@ -105,6 +105,7 @@ pub fn replay_all<const ROOM: usize, F: Fn(&[u32]) -> bool>(
     let mut line = [0u32; ROOM];
     let mut replay = Replay::new(&mut line);
     let mut buf = [0u8; 65536];
+    // A `loop` would need a measure, and an input has none.
     for _ in 0..u64::MAX {
         let Ok(k) = input.read(&mut buf) else {
             break;

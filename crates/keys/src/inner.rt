@@ -44,17 +44,19 @@ fn group_words(group: Option<u32>) -> [u32; 2]
 fn rows_in(tof_row: u32, delta: u32) -> u32
     ensures { result ≡ tof_row / (delta + 1) }
 {
-    ((tof_row as u64) / ((delta as u64) + 1)) as u32
+    (u64::from(tof_row) / (u64::from(delta) + 1)) as u32
 }
 
 // Whether x falls into the k-th interval, where each has `width` numbers: no division is needed to see that.
+#[tactic(auto, using(crate::proofs::Laws::from_start))]
 fn falls_into(k: u32, width: u64, x: u32) -> bool
     requires { (0 < width) × (width ≤ 4294967296) }
     ensures { result ≡ eqb k (x / width) }
 {
-    let start = (k as u64) * width;
-    if start <= x as u64 {
-        return (x as u64) - start < width;
+    let start = u64::from(k) * width;
+    let x = u64::from(x);
+    if start <= x {
+        return x - start < width;
     }
     false
 }
@@ -76,8 +78,8 @@ impl Bucket {
     pub fn has(self, p: ImPeak1D, params: StitchParams) -> bool
         ensures { result ≡ is_same_bucket self (bucket_of params p) }
     {
-        let scans = params.max_scan_delta.max(1) as u64;
-        let rows = (params.max_tof_row_delta as u64) + 1;
+        let scans = u64::from(params.max_scan_delta.max(1));
+        let rows = u64::from(params.max_tof_row_delta) + 1;
         (self.group == group_in(p, params))
             & falls_into(self.scans, scans, p.scan)
             & falls_into(self.rows, rows, p.tof_row)
@@ -91,14 +93,10 @@ fn put_first_key(out: &mut [u32], p: ImPeak1D, params: StitchParams)
 {
     let b = Bucket::of(p, params);
     let [there, number] = group_words(b.group);
-    out[0] = there;
-    out[1] = number;
-    out[2] = b.scans;
-    out[3] = b.rows;
-    out[4] = p.scan;
-    out[5] = p.rt_lo;
-    out[6] = p.tof_row;
-    out[7] = p.id;
+    let key = [
+        there, number, b.scans, b.rows, p.scan, p.rt_lo, p.tof_row, p.id,
+    ];
+    out[..8].copy_from_slice(&key);
 }
 
 // That of the second pass.
@@ -107,15 +105,12 @@ fn put_second_key(out: &mut [u32], p: ImPeak1D)
     ensures { out.new ≡ key_of Second p ++ drop 6 out.old }
 {
     let [there, number] = group_words(matching::inner::group_of(p));
-    out[0] = there;
-    out[1] = number;
-    out[2] = p.tof_row;
-    out[3] = p.scan;
-    out[4] = p.rt_lo;
-    out[5] = p.id;
+    let key = [there, number, p.tof_row, p.scan, p.rt_lo, p.id];
+    out[..6].copy_from_slice(&key);
 }
 
 // The identity alone.
+#[tactic(auto, unfolding(crate::specs::Keys::key_of))]
 fn put_id_key(out: &mut [u32], p: ImPeak1D)
     requires { 1 ≤ length out.old }
     ensures { out.new ≡ key_of Identity p ++ drop 1 out.old }
@@ -150,12 +145,14 @@ impl KeyRule {
     }
 }
 
-// Writes the keys of the first n records to the front of `table`. The count stands beside the list as it does in `record`.
+// Writes the keys of the first n records to the front of `table`. The count is handed in: the callers have it, and the words of a slice
+// would be divided by those of a record to find it again.
 pub fn put_keys(list: &[u32], n: usize, rule: KeyRule, table: &mut [u32])
     requires { (n * size ≤ length list.now) × (n * width_of rule ≤ length table.old) }
     ensures { table.new ≡ key_table rule (peaks_of list.now n) ++ drop (n * width_of rule) table.old }
 {
     let width = rule.width();
+    // one number for a record of one list and a row of the other, which differ in width
     for k in 0..n {
         let at = k * width;
         rule.put(record::inner::peak_at(list, k), &mut table[at..]);

@@ -124,7 +124,8 @@ fn check_field(text: &[u8], at: usize, first: bool, field: usize) -> Result<(), 
     }
 }
 
-// How many fields a line has, or what is wrong with the first bad one. A `loop`, since it steps from comma to comma.
+// How many fields a line has, or what is wrong with the first bad one. A `loop` from comma to comma: a fault is told with its column, which
+// a walk over the fields alone does not have.
 fn count_fields(line: &[u8], first: bool) -> Result<usize, Fault>
     ensures good { is_ok result ≡ all_within first 1 (fields line.now) }
     ensures count { IfOk result (λ n. n ≡ length (fields line.now)) }
@@ -188,10 +189,7 @@ fn check_line(s: Progress, line: &[u8]) -> Result<(), Fault>
 fn line_start(bytes: &[u8]) -> usize
     ensures { result ≤ length bytes.now }
 {
-    match bytes.iter().rposition(|b| *b == b'\n') {
-        Some(i) => i + 1,
-        None => 0,
-    }
+    bytes.iter().rposition(|b| *b == b'\n').map_or(0, |i| i + 1)
 }
 
 // What is wrong with a line that an LF ends, given without the LF.

@@ -13,7 +13,8 @@ use lib.Ieee.{Float, nan}
 use Rattle.numeric.specs.Arith.{𝟎, at}
 use Rattle.digits.proofs.UpTo.{row_fits}
 use Rattle.tof.specs.declared.TofScale.{TofScale}
-use Rattle.record.specs.Record.{peak_at}
+use Rattle.record.specs.Record.{size, peak_at}
+use Rattle.record.proofs.Laws.{front-peak}
 use Rattle.frameindex.specs.FrameIndex.{Index, frames}
 use Rattle.framesums.specs.declared.inner.Window.{Window}
 use Rattle.framesums.specs.Sums.{add_frame, frame_sums}
@@ -177,3 +178,10 @@ module _ (ix : Index) (scale : TofScale) (pad : ℕ) (list : List ℕ) (w : ℕ 
       sym (take-append-drop (n * frames ix) new)
       ∙ ap (λ (x : List Float). x ++ drop (n * frames ix) new) (traces-to n (omega arith))
       ∙ ap (λ (x : List Float). traces_of ix scale pad list n ++ x) c.rest
+
+-- ---- the front of a list of peaks
+pub front-traces : (ix : Index) (scale : TofScale) (pad : ℕ) (list : List ℕ) (n k : ℕ) → k ≤ n
+    → traces_of ix scale pad (take (n * size) list) k ≡ traces_of ix scale pad list k
+unfolding traces_of
+front-traces ix scale pad list n zero h = refl
+front-traces ix scale pad list n (suc k) h = rw (front-traces ix scale pad list n k (omega arith), front-peak list n k (omega arith))

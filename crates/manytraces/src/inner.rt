@@ -1,6 +1,6 @@
 // Many traces over a checked index: the windows of all peaks first, then frame after frame a sum for each peak, so that what a frame has
 // is read while it is at hand.
-ghost use Rattle.std.specs.Prelude.{◌≡◌, ◌++◌, ◌≤◌, ◌<◌, ◌+◌, ◌*◌, length, drop};
+ghost use Rattle.std.specs.Prelude.{◌≡◌, ◌++◌, ◌≤◌, ◌<◌, ◌+◌, ◌*◌, ◌/◌, length, drop};
 ghost use Rattle.limits.specs.Limits.{max_count};
 ghost use Rattle.numeric.specs.Arith.{𝟎};
 ghost use Rattle.record.specs.Record.{size, peak_at};
@@ -11,9 +11,9 @@ ghost use Rattle.windows.specs.Windows.{peak_window};
 ghost use Rattle.manytraces.specs.ManyTraces.{traces_of};
 ghost use Rattle.manytraces.specs.Steps.{window_at, Kept, Noted, Column, Columns};
 
+use super::peaks::PaddedPeaks;
 use frameindex::CheckedIndex;
 use framesums::inner::Window;
-use tof::TofScale;
 
 // ---- windows as words, four each: a caller lends scratch as words, since C has no `Window` and nothing is taken from a heap
 
@@ -43,21 +43,22 @@ fn window_at(windows: &[u32], k: usize) -> Window
     }
 }
 
-// Writes those of the first n peaks of a list.
-fn put_windows(scale: TofScale, list: &[u32], n: usize, pad: u32, windows: &mut [u32])
-    requires { Sound scale × (pad ≤ max_count) × (n * size ≤ length list.now) × (4 * n ≤ length windows.old) }
-    ensures { Noted (λ k. peak_window scale pad (peak_at list.now k)) n windows.old windows.new }
+// Writes those of some peaks. A record and its window are read and written by their place, k, since both are words of a list.
+fn put_windows(peaks: PaddedPeaks, windows: &mut [u32])
+    requires { Sound peaks.scale × (peaks.pad ≤ max_count) × (4 * (length peaks.list.now / size) ≤ length windows.old) }
+    ensures { Noted (λ k. peak_window peaks.entry.scale peaks.entry.pad (peak_at peaks.entry.list.now k)) (length peaks.entry.list.now / size) windows.old windows.new }
 {
-    for k in 0..n {
-        let p = record::inner::peak_at(list, k);
-        let w = windows::inner::peak_window(scale, pad, p);
+    for k in 0..peaks.count() {
+        let p = record::inner::peak_at(peaks.list, k);
+        let w = windows::inner::peak_window(peaks.scale, peaks.pad, p);
         put_window(windows, k, w);
     }
 }
 
 // ---- sums
 
-// Puts the sums of frame f, of m frames: one for each of n windows, at the f-th place of its trace.
+// Puts the sums of frame f, of m frames: one for each of n windows, at the f-th place of its trace. A column goes by its place, k, in both
+// lists, four words and m sums apart.
 fn put_column(ix: &CheckedIndex, f: usize, m: usize, n: usize, windows: &[u32], out: &mut [f32])
     requires { (f + 1 < length ix.now.starts) × (f < m) × (n * m ≤ length out.old) × (4 * n ≤ length windows.now) }
     ensures { Column (λ k. add_frame ix.now (window_at windows.now k) f 𝟎) n m f out.old out.new }
@@ -68,7 +69,7 @@ fn put_column(ix: &CheckedIndex, f: usize, m: usize, n: usize, windows: &[u32], 
     }
 }
 
-// Those of the first m frames.
+// Those of the first m frames, by their places in the run.
 fn put_columns(ix: &CheckedIndex, m: usize, n: usize, windows: &[u32], out: &mut [f32])
     requires { (m < length ix.now.starts) × (n * m ≤ length out.old) × (4 * n ≤ length windows.now) }
     ensures { Columns (λ k g. add_frame ix.now (window_at windows.now k) g 𝟎) n m m out.old out.new }
@@ -78,20 +79,13 @@ fn put_columns(ix: &CheckedIndex, m: usize, n: usize, windows: &[u32], out: &mut
     }
 }
 
-// Puts the traces of the first n peaks of a list to the front of `out`, one after another.
-pub fn put_traces(
-    ix: &CheckedIndex,
-    scale: TofScale,
-    list: &[u32],
-    n: usize,
-    pad: u32,
-    out: &mut [f32],
-    windows: &mut [u32],
-)
-    requires { Sound scale × (pad ≤ max_count) × (n * size ≤ length list.now) × (n * frames ix.now ≤ length out.old) × (4 * n ≤ length windows.old) }
-    ensures out { out.new ≡ traces_of ix.now scale pad list.now n ++ drop (n * frames ix.now) out.old }
-    ensures windows { drop (4 * n) windows.new ≡ drop (4 * n) windows.old }
+// Puts the traces of some peaks to the front of `out`, one after another.
+pub fn put_traces(ix: &CheckedIndex, peaks: PaddedPeaks, out: &mut [f32], windows: &mut [u32])
+    requires { Sound peaks.scale × (peaks.pad ≤ max_count) × (length peaks.list.now / size * frames ix.now ≤ length out.old)
+        × (4 * (length peaks.list.now / size) ≤ length windows.old) }
+    ensures out { out.new ≡ traces_of ix.now peaks.entry.scale peaks.entry.pad peaks.entry.list.now (length peaks.entry.list.now / size) ++ drop (length peaks.entry.list.now / size * frames ix.now) out.old }
+    ensures windows { drop (4 * (length peaks.entry.list.now / size)) windows.new ≡ drop (4 * (length peaks.entry.list.now / size)) windows.old }
 {
-    put_windows(scale, list, n, pad, windows);
-    put_columns(ix, ix.frames(), n, windows, out);
+    put_windows(peaks, windows);
+    put_columns(ix, ix.frames(), peaks.count(), windows, out);
 }

@@ -3,34 +3,31 @@
 
 pub mod inner;
 pub mod numbers;
+pub mod peaks;
 
 ghost use Rattle.manytraces.specs.ManyTraces.{call_of, Answered};
 
 use frameindex::FrameIndex;
 use numbers::Rooms;
-use record::ImPeak1D;
+use peaks::PaddedPeaks;
 use refusal::Refusal;
-use tof::TofScale;
 
 // Puts for each peak of a list its trace by its TOF bounds and its absolute scans to the front of `out`, peak after peak, and in a trace a
 // sum for each frame, and answers how many traces they are. `windows` is scratch, four words a peak. Or refuses and leaves both lists as
 // they are.
 pub fn rt_traces_for_im_peaks_by_bounds(
     ix: &FrameIndex,
-    scale: TofScale,
-    list: &[u32],
-    pad: u32,
+    peaks: PaddedPeaks<'_>,
     out: &mut [f32],
     windows: &mut [u32],
 ) -> Result<usize, Refusal>
-    ensures { Answered (call_of ix.now scale list.now pad) out.old windows.old out.new windows.new result }
+    ensures { Answered (call_of ix.now peaks.entry.scale peaks.entry.list.now peaks.entry.pad) out.old windows.old out.new windows.new result }
 {
     let room = Rooms {
         out: out.len(),
         windows: windows.len(),
     };
-    let ix = numbers::check(limits::MAX_READING, ix, scale, list, pad, room)?;
-    let n = list.len() / ImPeak1D::WORDS;
-    inner::put_traces(&ix, scale, list, n, pad, out, windows);
-    Ok(n)
+    let ix = numbers::check(limits::MAX_READING, ix, peaks, room)?;
+    inner::put_traces(&ix, peaks, out, windows);
+    Ok(peaks.count())
 }

@@ -4,11 +4,11 @@ ghost use Rattle.refusal.specs.Numbered.{number_in};
 ghost use Rattle.manytraces.specs.ManyTraces.{call_of, many_number};
 ghost use Rattle.manytraces.specs.Ready.{Ready};
 
+use super::peaks::PaddedPeaks;
 use frameindex::numbers::Further;
 use frameindex::{CheckedIndex, FrameIndex};
 use record::ImPeak1D;
 use refusal::Refusal;
-use tof::TofScale;
 
 // The lengths of the lists that are lent.
 #[derive(Clone, Copy)]
@@ -28,24 +28,24 @@ fn has_room(n: usize, m: usize, room: usize) -> bool
 pub fn check<'a>(
     limit: u32,
     ix: &FrameIndex<'a>,
-    scale: TofScale,
-    list: &[u32],
-    pad: u32,
+    peaks: PaddedPeaks<'_>,
     room: Rooms,
 ) -> Result<CheckedIndex<'a>, Refusal>
-    ensures number { number_in result ≡ many_number limit (call_of ix.now scale list.now pad) room }
+    ensures number { number_in result ≡ many_number limit (call_of ix.now peaks.entry.scale peaks.entry.list.now peaks.entry.pad) room }
     ensures same { IfOk result (λ c. c ≡ ix.now) }
-    ensures ready { OnOk result (Ready (call_of ix.now scale list.now pad) room) }
+    ensures ready { OnOk result (Ready (call_of ix.now peaks.entry.scale peaks.entry.list.now peaks.entry.pad) room) }
 {
-    let n = list.len() / ImPeak1D::WORDS;
+    let n = peaks.count();
+    let list = peaks.list;
+    let scale = peaks.scale;
     ix.check(
         limit,
         Further {
             lengths: list.len() % ImPeak1D::WORDS == 0,
             sizes: n <= limits::MAX_LIST,
-            values: tof::inner::sound_step(scale.tof_step) & (pad <= limits::MAX_COUNT),
+            values: tof::inner::sound_step(scale.tof_step) & (peaks.pad <= limits::MAX_COUNT),
             axes: tof::inner::sound_ends(scale),
-            records: record::inner::all_sound(list, n),
+            records: record::inner::all_sound(list),
             room: has_room(n, ix.frames(), room.out),
             scratch: 4 * n <= room.windows,
             scale: tof::inner::agrees(scale),

@@ -9,6 +9,9 @@ use frameindex::FrameIndex;
 use inner::Block;
 use refusal::Refusal;
 
+// The two marginals check alike, count and sum differently, in a line each: a step for both would take the count and a closure for the
+// sums.
+
 // Puts the sums of the block's frames to the front of `out`, in each of the readings with its bins and scans, and answers how many they
 // are. Or refuses and leaves `out` as it is.
 pub fn build_rt_marginal(ix: &FrameIndex, b: Block, out: &mut [f32]) -> Result<usize, Refusal>

@@ -50,12 +50,21 @@ join-tests params w last p ps h =
     rw (h.min_row, h.max_row, h.min_scan, h.max_scan)
     (last-first (same_group params last p) (rows_near params last p) (frames_overlap params last p) (scans_overlap params last p) (apexes_inside params last p) (within_limits params (row_span all) (scan_span all)) (rows-within params last p ps (scan_span all)))
 
--- The answer r of the tests one after the other, of which the limits of the whole group come first, where w is s widened by the peak.
-pub joined : (params : StitchParams) (s w : Spans) (last p next : ImPeak1D) (fit r : Bool)
+-- the tests one after the other
+in-turn : (f a b c d : Bool) → ((f && a) && b) && c && d ≡ f && (a && b && c && d)
+in-turn false a b c d = refl
+in-turn true false b c d = refl
+in-turn true true false c d = refl
+in-turn true true true c d = refl
+
+-- The answer r of the tests one after the other, of which the limits of the whole group come first, where w is s widened by the peak; u, v and x
+-- are what the tests say together so far.
+pub joined : (params : StitchParams) (s w : Spans) (last p next : ImPeak1D) (fit u v x r : Bool)
     → ((q : ImPeak1D) (ps : List ImPeak1D) → Covers s (q ∷ ps) → Covers w (next ∷ (q ∷ ps))) → next ≡ p
     → fit ≡ within_limits params (w.max_row - w.min_row) (w.max_scan - w.min_scan)
-    → r ≡ fit && (same_group params last p && frames_overlap params last p && scans_overlap params last p && apexes_inside params last p)
+    → u ≡ fit && same_group params last p → v ≡ u && frames_overlap params last p → x ≡ v && scans_overlap params last p → r ≡ x && apexes_inside params last p
     → (ps : List ImPeak1D) → Covers s (last ∷ ps) → r ≡ may_join params (last ∷ ps) p
-joined params s w last p next fit r wider same f e ps h =
+joined params s w last p next fit u v x r wider same f a b c d ps h =
     let others : Bool = same_group params last p && frames_overlap params last p && scans_overlap params last p && apexes_inside params last p in
+    let e : r ≡ fit && others = rw (d, c, b, a) (in-turn fit (same_group params last p) (frames_overlap params last p) (scans_overlap params last p) (apexes_inside params last p)) in
     e ∙ ap (λ (t : Bool). t && others) f ∙ sym (join-tests params w last p ps (rw same at (wider last ps h)))

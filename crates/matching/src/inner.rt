@@ -9,7 +9,9 @@ ghost use Rattle.matching.specs.Group.{Covers, within_limits, may_join};
 use super::StitchParams;
 use record::ImPeak1D;
 
-// Whether n is at most a limit, where a limit of 0 is none: so the C entry has it.
+// Whether n is at most a limit. A limit of 0 is none, since the parameters and the C entry have a word for it (docs/SCOPE.md), and no
+// Option.
+#[tactic(auto, unfolding(crate::specs::Matching::at_most))]
 fn at_most(limit: u32, n: u32) -> bool
     ensures { result ≡ at_most limit n }
 {
@@ -73,13 +75,7 @@ impl Interval {
     fn shares_enough(self, other: Interval, least: u32, share: f32) -> bool
         ensures { result ≡ enough_common least share self.lo self.hi other.lo other.hi }
     {
-        if least <= self.overlap(other) {
-            if 0.0 < share {
-                return !(self.jaccard(other) < share);
-            }
-            return true;
-        }
-        false
+        least <= self.overlap(other) && !(0.0 < share && self.jaccard(other) < share)
     }
 
     // The same, with a short way for two intervals that are one: their share is 1, and they have one sample more than their ends lie apart.
@@ -135,34 +131,48 @@ fn rows_near(p: StitchParams, a: ImPeak1D, b: ImPeak1D) -> bool
     at_most(p.max_tof_row_delta, a.tof_row.abs_diff(b.tof_row))
 }
 
+// The frames of a peak.
+fn frames(p: ImPeak1D) -> Interval
+    ensures { result ≡ record { lo = p.rt_lo; hi = p.rt_hi } }
+{
+    Interval {
+        lo: p.rt_lo,
+        hi: p.rt_hi,
+    }
+}
+
+// Its scans, counted from the window's first.
+fn scans(p: ImPeak1D) -> Interval
+    ensures { result ≡ record { lo = p.left; hi = p.right } }
+{
+    Interval {
+        lo: p.left,
+        hi: p.right,
+    }
+}
+
+// Its absolute scans.
+fn scans_abs(p: ImPeak1D) -> Interval
+    ensures { result ≡ record { lo = p.left_abs; hi = p.right_abs } }
+{
+    Interval {
+        lo: p.left_abs,
+        hi: p.right_abs,
+    }
+}
+
 #[tactic(auto, unfolding(crate::specs::Matching::frames_overlap))]
 fn frames_overlap(p: StitchParams, a: ImPeak1D, b: ImPeak1D) -> bool
     ensures { result ≡ frames_overlap p a b }
 {
-    let frames_a = Interval {
-        lo: a.rt_lo,
-        hi: a.rt_hi,
-    };
-    let frames_b = Interval {
-        lo: b.rt_lo,
-        hi: b.rt_hi,
-    };
-    frames_a.has_enough(frames_b, p.min_overlap_frames, p.jaccard_min)
+    frames(a).has_enough(frames(b), p.min_overlap_frames, p.jaccard_min)
 }
 
 #[tactic(auto, unfolding(crate::specs::Matching::scans_overlap))]
 fn scans_overlap(p: StitchParams, a: ImPeak1D, b: ImPeak1D) -> bool
     ensures { result ≡ scans_overlap p a b }
 {
-    let scans_a = Interval {
-        lo: a.left,
-        hi: a.right,
-    };
-    let scans_b = Interval {
-        lo: b.left,
-        hi: b.right,
-    };
-    scans_a.has_enough(scans_b, p.min_im_overlap_scans, p.im_jaccard_min)
+    scans(a).has_enough(scans(b), p.min_im_overlap_scans, p.im_jaccard_min)
 }
 
 #[tactic(auto, unfolding(crate::specs::Matching::apexes_inside))]
@@ -170,32 +180,22 @@ fn apexes_inside(p: StitchParams, a: ImPeak1D, b: ImPeak1D) -> bool
     ensures { result ≡ apexes_inside p a b }
 {
     if p.require_mutual_apex_inside {
-        let scans_a = Interval {
-            lo: a.left_abs,
-            hi: a.right_abs,
-        };
-        let scans_b = Interval {
-            lo: b.left_abs,
-            hi: b.right_abs,
-        };
-        let both = scans_a.common(scans_b);
+        let both = scans_abs(a).common(scans_abs(b));
         return (both.lo <= both.hi) & both.has_scan(a.scan_abs) & both.has_scan(b.scan_abs);
     }
     true
 }
 
 // Whether two peaks that follow each other may stand in one group.
+#[tactic(auto, unfolding(crate::specs::Matching::compatible))]
 pub fn compatible_fast(a: ImPeak1D, b: ImPeak1D, p: StitchParams) -> bool
     ensures { result ≡ compatible p a b }
 {
-    let near = same_group(p, a, b) & rows_near(p, a, b);
-    if near {
-        if frames_overlap(p, a, b) {
-            return scans_overlap(p, a, b) & apexes_inside(p, a, b);
-        }
-        return false;
-    }
-    false
+    same_group(p, a, b)
+        && rows_near(p, a, b)
+        && frames_overlap(p, a, b)
+        && scans_overlap(p, a, b)
+        && apexes_inside(p, a, b)
 }
 
 // The lowest and the highest row and absolute scan among the members of a group.
@@ -209,6 +209,7 @@ pub struct Spans {
 
 impl Spans {
     // Those of a group of one.
+    #[tactic(auto, unfolding(peaklist::specs::Extremes::extreme))]
     pub fn of_one(p: ImPeak1D) -> Spans
         ensures { Covers result (p ∷ []) }
     {
@@ -247,8 +248,8 @@ impl Spans {
     }
 }
 
-// A test of the peaks at places k - 1 and k of a list. It reads its peaks itself, so that only the words that it looks at are read, and only if
-// it is asked.
+// A test of the peaks at places k - 1 and k of a list. It reads its peaks itself, so that only the words that it looks at are read, and
+// only if it is asked.
 fn at<F: Fn(StitchParams, ImPeak1D, ImPeak1D) -> bool>(
     list: &[u32],
     k: usize,
@@ -272,14 +273,9 @@ pub fn joins_at(list: &[u32], k: usize, s: Spans, params: StitchParams) -> bool
     requires { (0 < k) × (k * size + size ≤ length list.now) }
     ensures { (ps : List PeakT) → Covers s (peak_at list.now (k - 1) ∷ ps) → result ≡ may_join params (peak_at list.now (k - 1) ∷ ps) (peak_at list.now k) }
 {
-    if s.widened(record::inner::peak_at(list, k)).fit(params) {
-        if at(list, k, params, same_group) {
-            if at(list, k, params, frames_overlap) {
-                if at(list, k, params, scans_overlap) {
-                    return at(list, k, params, apexes_inside);
-                }
-            }
-        }
-    }
-    false
+    s.widened(record::inner::peak_at(list, k)).fit(params)
+        && at(list, k, params, same_group)
+        && at(list, k, params, frames_overlap)
+        && at(list, k, params, scans_overlap)
+        && at(list, k, params, apexes_inside)
 }

@@ -73,6 +73,7 @@ fn word_if(there: bool, w: u32) -> u32
     if there { w } else { 0 }
 }
 
+#[tactic(auto, unfolding(crate::specs::Merging::weight))]
 fn weight_of(p: ImPeak1D) -> f32
     ensures { result ≡ weight p }
 {
@@ -137,6 +138,7 @@ impl Sums {
 }
 
 impl Bounds {
+    #[tactic(auto, unfolding(crate::specs::Walk::bounds_of, peaklist::specs::Extremes::extreme))]
     fn start(p: ImPeak1D) -> Bounds
         ensures { result ≡ bounds_of (p ∷ []) }
     {

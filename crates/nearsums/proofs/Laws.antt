@@ -1,6 +1,6 @@
 -- Searches near a place.
 use mathlib.Core.Path.{◌≡◌, refl, sym, ◌∙◌, subst}
-use mathlib.Core.Bool.{Bool, true, false}
+use mathlib.Core.Bool.{Bool, true, false, cond}
 use mathlib.Core.List.{List}
 use Prim.Native.Nat.{ℕ, ◌≤◌, ◌<◌, ◌+◌}
 use native.Mathlib.Omega.{arith}
@@ -77,6 +77,14 @@ module _ (bins : List ℕ) (from to x : ℕ) (rise : Rising bins from to) where
           go : (t : Bool) → ltb j i ≡ t → x ≤ get_or bins j 0
           go true t = g.high j u (ltb-true j i t)
           go false t = let q : j ≡ i = omega (arith, ltb-false j i t) in rw q b
+
+  -- the one more is counted where its bin, v, is below x
+  pub first-next : (i r v d : ℕ) → i < to → from ≤ i → v ≡ get_or bins i 0 → d ≡ cond (ltb v x) 1 0 → FirstAt bins from i x r → FirstAt bins from (i + 1) x (r + d)
+  first-next i r v d h a e k g = rw k (go (ltb v x) refl)
+    where
+      go : (t : Bool) → ltb v x ≡ t → FirstAt bins from (i + 1) x (r + cond t 1 0)
+      go true t = first_counted i r h a (rw (sym e) (ltb-true v x t)) g
+      go false t = let z : r + 0 ≡ r = omega arith in rw z (first-passed i r h a (rw (sym e) (ltb-false v x t)) g)
 
   pub first-whole : (i r : ℕ) → i ≡ to → FirstAt bins from i x r → FirstAt bins from to x r
   first-whole i r e g = subst (λ (j : ℕ). FirstAt bins from j x r) e g

@@ -8,6 +8,8 @@ ghost use Rattle.nearsums.specs.Steps.{FirstIn, Placed};
 use frameindex::CheckedIndex;
 use framesums::inner::{Span, Window};
 
+// Places are those of the whole list of bins, as in `framesums`: the search of a frame begins at one that is remembered.
+
 // The first place whose bin is x at least, of a few: those below are counted, all of them, since at a branch that leaves early the
 // processor would lose what it has begun of the frames behind.
 fn count_to(bins: &[u32], from: usize, to: usize, x: u32) -> usize
@@ -15,10 +17,8 @@ fn count_to(bins: &[u32], from: usize, to: usize, x: u32) -> usize
     ensures { FirstAt bins.now from to x result }
 {
     let mut r = from;
-    for i in from..to {
-        if bins[i] < x {
-            r += 1;
-        }
+    for &bin in &bins[from..to] {
+        r += framesums::inner::below(bin, x);
     }
     r
 }
@@ -70,10 +70,8 @@ fn put_places(ix: &CheckedIndex, from: usize, n: usize, x: u32, near: &mut [u32]
     requires { (from + n < length ix.now.starts) × (from + n ≤ length near.old) }
     ensures { Placed ix.now from n x near.new }
 {
-    for k in 0..n {
-        let f = from + k;
-        let h = near[f] as usize;
-        near[f] = place_in(ix, f, x, h);
+    for (k, place) in near[from..from + n].iter_mut().enumerate() {
+        *place = place_in(ix, from + k, x, *place as usize);
     }
 }
 
@@ -101,10 +99,11 @@ fn put_sums(ix: &CheckedIndex, from: usize, n: usize, w: Window, near: &[u32], o
         × Placed ix.now from n w.bin_lo near.now }
     ensures { out.new ≡ frame_sums ix.now w from n ++ drop n out.old }
 {
-    for k in 0..n {
-        let i = near[from + k] as usize;
-        let p = span_from(ix, from + k, w, i);
-        out[k] = framesums::inner::add_points(ix.scans, ix.readings, p, w, 0.0);
+    let scans = ix.scans;
+    let readings = ix.readings;
+    for (k, &i) in near[from..from + n].iter().enumerate() {
+        let p = span_from(ix, from + k, w, i as usize);
+        out[k] = framesums::inner::add_points(scans, readings, p, w, 0.0);
     }
 }
 

@@ -41,17 +41,17 @@ pub number-lowest : NoiseLowest
 number-lowest xs h = lowest_by (noise_checks xs) (number_is xs) (ascending xs) h
 
 -- ---- the middle one, by its rank
-pub middle-reading : (xs : List Float) → rank_f xs (length xs / 2) ≡ middle xs
+pub middle_reading : (xs : List Float) → rank_f xs (length xs / 2) ≡ middle xs
 unfolding middle
-middle-reading xs = refl
+middle_reading xs = refl
 
-pub middle-distance : (m : Float) (xs : List Float) → rank_f (distances m xs) (length xs / 2) ≡ middle (distances m xs)
+pub middle_distance : (m : Float) (xs : List Float) → rank_f (distances m xs) (length xs / 2) ≡ middle (distances m xs)
 unfolding middle
-middle-distance m xs = ap (λ (n : ℕ). rank_f (distances m xs) (n / 2)) (sym (length-map xs (λ x. abs_f (x ⊖ m))))
+middle_distance m xs = ap (λ (n : ℕ). rank_f (distances m xs) (n / 2)) (sym (length-map xs (λ x. abs_f (x ⊖ m))))
 
-pub middle-step : (times : List Float) → rank_f (steps times) ((length times - 1) / 2) ≡ middle (steps times)
+pub middle_step : (times : List Float) → rank_f (steps times) ((length times - 1) / 2) ≡ middle (steps times)
 unfolding middle
-middle-step times = ap (λ (n : ℕ). rank_f (steps times) (n / 2)) (sym (steps-length times))
+middle_step times = ap (λ (n : ℕ). rank_f (steps times) (n / 2)) (sym (steps-length times))
 
 middle-is : (xs : List Float) → 1 ≤ length xs → AllPlain xs → Middle xs (middle xs)
 unfolding middle

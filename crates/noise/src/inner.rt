@@ -3,6 +3,7 @@ ghost use Rattle.std.specs.Prelude.{◌≡◌};
 ghost use Rattle.noise.specs.Noise.{noise_f, dt_f};
 
 // The middle distance from the middle reading, times 1.4826.
+#[tactic(auto, unfolding(crate::specs::Noise::noise_f), using(crate::proofs::NoiseLaws::middle_reading, crate::proofs::NoiseLaws::middle_distance))]
 pub fn robust_noise_mad(signal: &[f32]) -> f32
     ensures { result ≡ noise_f signal.now }
 {
@@ -15,6 +16,7 @@ pub fn robust_noise_mad(signal: &[f32]) -> f32
 }
 
 // The middle time step, no shorter than a millisecond.
+#[tactic(auto, unfolding(crate::specs::Noise::dt_f), using(crate::proofs::NoiseLaws::middle_step))]
 pub fn effective_dt(times: &[f32]) -> f32
     ensures { result ≡ dt_f times.now }
 {

@@ -15,6 +15,7 @@ pub fn of_index(n: usize) -> f32
 }
 
 // Whether every reading lies from 0 to the float of the pattern `limit`, with a clear sign.
+#[tactic(auto, unfolding(crate::specs::Numeric::all_in_range))]
 pub fn all_in_range(y: &[f32], limit: u32) -> bool
     ensures { result ≡ all_in_range limit y.now }
 {
@@ -39,7 +40,7 @@ pub fn all_fit(y: &[f32])
     }
 }
 
-// The lower and the higher of two numbers.
+// The lower and the higher of two numbers: std's, under names that have promises and wrong versions of their own.
 pub fn lower(a: u32, b: u32) -> u32
     ensures { result ≡ min a b }
 {

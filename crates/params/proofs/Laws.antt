@@ -1,22 +1,14 @@
--- Laws of lists that a loop reads from the front.
+-- Laws of rising lists that a loop reads from the front (cited by wordbytes).
 use mathlib.Core.Path.{◌≡◌, refl}
 use mathlib.Core.Bool.{true, ◌&&◌}
 use mathlib.Core.List.{List, [], ◌∷◌}
 use Prim.Native.Nat.{ℕ, ◌≤◌, ◌<◌, ◌+◌}
 use native.Mathlib.Numerals.{add-one}
 use native.Mathlib.Omega.{arith}
-use lib.Dec.{leb, ltb}
+use lib.Dec.{ltb}
 use lib.ListN.{length, get_or, drop, drop_of_length-le}
 use lib.Seq.{drop-cons}
-use Rattle.params.specs.Params.{all_up_to, rising_from, rising}
-
-pub up-to-step : (limit : ℕ) (l : List ℕ) (i : ℕ) → i < length l → all_up_to limit (drop i l) ≡ (leb (get_or l i 0) limit && all_up_to limit (drop (i + 1) l))
-unfolding all_up_to
-up-to-step limit l i h = rw (add-one, drop-cons l i 0)
-
-pub up-to-end : (limit : ℕ) (l : List ℕ) (i : ℕ) → length l ≤ i → all_up_to limit (drop i l) ≡ true
-unfolding all_up_to
-up-to-end limit l i h = rw (drop_of_length-le l h)
+use Rattle.params.specs.Params.{rising_from, rising}
 
 pub rising_none : (l : List ℕ) → length l ≡ 0 → rising l ≡ true
 unfolding rising

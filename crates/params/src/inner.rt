@@ -8,24 +8,22 @@ use limits::PeakId;
 pub fn most_peaks(n: usize) -> usize
     ensures { result ≡ most_peaks n }
 {
-    if n == 0 { 0 } else { (n - 1) / 2 }
+    n.saturating_sub(1) / 2
 }
 
 pub fn lent_or_empty(n: usize, table: &[f32]) -> bool
     ensures { result ≡ lent_or_empty n table.now }
 {
-    (table.len() == 0) | (table.len() == n)
+    table.is_empty() || table.len() == n
 }
 
 pub fn enough_ids(first: PeakId, peaks: usize) -> bool
     ensures { result ≡ enough_ids first peaks }
 {
-    if peaks <= limits::IDENTITIES {
-        return (first as usize) + peaks <= limits::IDENTITIES;
-    }
-    false
+    peaks <= limits::IDENTITIES && (first as usize) + peaks <= limits::IDENTITIES
 }
 
+#[tactic(auto, unfolding(crate::specs::Params::all_up_to))]
 pub fn all_up_to(limit: u32, axis: &[u32]) -> bool
     ensures { result ≡ all_up_to limit axis.now }
 {
@@ -36,15 +34,18 @@ pub fn all_up_to(limit: u32, axis: &[u32]) -> bool
     all
 }
 
+#[tactic(auto, unfolding(crate::specs::Params::rising, crate::specs::Params::rising_from))]
 pub fn is_rising(axis: &[u32]) -> bool
     ensures { result ≡ rising axis.now }
 {
-    if axis.len() == 0 {
+    let Some((&first, rest)) = axis.split_first() else {
         return true;
-    }
+    };
+    let mut last = first;
     let mut all = true;
-    for i in 1..axis.len() {
-        all = all & (axis[i - 1] < axis[i]);
+    for &s in rest {
+        all &= last < s;
+        last = s;
     }
     all
 }

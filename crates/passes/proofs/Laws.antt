@@ -84,17 +84,6 @@ one_more list order d out i h w e =
 
 -- ---- places that stand in their own order
 
-pub one-stands : (order : List ℕ) (i : ℕ) (all : Bool) → (all ≡ true → (k : ℕ) → k < i → get_or order k 0 ≡ k)
-    → (all && eqb (get_or order i 0) i) ≡ true → (k : ℕ) → k < i + 1 → get_or order k 0 ≡ k
-one-stands order i all h e k l = go (eqb k i) refl
-  where
-    parts : (all ≡ true) × (eqb (get_or order i 0) i ≡ true)
-    parts = both all e
-
-    go : (b : Bool) → eqb k i ≡ b → get_or order k 0 ≡ k
-    go true d = let same : k ≡ i = eqb-true k i d in rw same (eqb-true (get_or order i 0) i parts.1)
-    go false d = let apart = eqb-false k i d in h parts.0 k (omega arith)
-
 pub all-stand : (order : List ℕ) → ((k : ℕ) → k < length order → get_or order k 0 ≡ k) → order ≡ up_to (length order)
 all-stand order h = ext_get_or 0 order (up_to (length order)) (sym (upto-length (length order))) (λ k l. h k l ∙ sym (upto-get (length order) k l))
 

@@ -4,4 +4,4 @@ pub mod Cases
 pub mod Stitching
 pub mod Steps
 pub mod PassLaws
-pub mod Left
+pub mod Lists

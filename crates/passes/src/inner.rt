@@ -7,7 +7,7 @@ ghost use Rattle.digits.specs.Sorted.{up_to};
 ghost use Rattle.keys.specs.declared.KeyRule.TheVariants.{Identity};
 ghost use Rattle.keys.specs.Keys.{width_of};
 ghost use Rattle.grouping.specs.Grouping.{pass_order};
-ghost use Rattle.passes.specs.Left.{out_in, owners_in, order_in, groups_in, keys_in, merged_in};
+ghost use Rattle.passes.specs.Lists.{SameLists};
 ghost use Rattle.passes.specs.Steps.{records_at, rest_order, Passed, Within, Stitched};
 
 use super::Lent;
@@ -48,9 +48,11 @@ fn stands(order: &[u32]) -> bool
     all
 }
 
-// One pass over as many records of `list` as `order` has places: the merged peaks to the front of `out`, and for each place the
-// number of its group to the front of `column`. `keys` holds the keys first, and then the records in their order, unless they stand
-// so in `list`. `order` has the places in the order of the words of their keys from `words` on. Returns how many groups there are.
+// One pass over as many records of `list` as `order` has places: the merged peaks to the front of `out`, and for each place the number of
+// its group to the front of `column`. `keys` holds the keys first, and then the records in their order, unless they stand so in `list`.
+// `order` has the places in the order of the words of their keys from `words` on. Returns how many groups there are. The two passes use
+// other lists of the six that are lent, so that no struct has these four. Rule and parameters are two: by the rule peaks are sorted, which
+// needs the parameters in the first pass alone, and by the parameters they are joined in both.
 fn pass(
     list: &[u32],
     rule: KeyRule,
@@ -76,40 +78,9 @@ fn pass(
     grouping::inner::put_groups(keys, order, rule, params, out, column)
 }
 
-// The same over the first n records, with the front of `order`. The two passes use other lists of the six, so that no struct has these four.
-fn pass_from(
-    list: &[u32],
-    n: usize,
-    rule: KeyRule,
-    params: StitchParams,
-    order: &mut [u32],
-    column: &mut [u32],
-    keys: &mut [u32],
-    out: &mut [u32],
-    words: usize,
-) -> usize
-    requires { (n * size ≤ length list.now) × (n ≤ length order.old) × (n ≤ length column.old)
-        × (n * size ≤ length keys.old) × (n * size ≤ length out.old) × (n ≤ 4294967296)
-        × (words ≤ width_of rule) × (take n order.old ≡ rest_order rule words (peaks_of list.now n)) }
-    ensures passed { Passed rule params (peaks_of list.now n) column.old keys.old out.old result column.new keys.new out.new }
-    ensures order { drop n order.new ≡ drop n order.old }
-{
-    pass(
-        list,
-        rule,
-        params,
-        &mut order[..n],
-        column,
-        keys,
-        out,
-        words,
-    )
-}
-
 // The same, whatever `order` has.
 fn pass_over(
     list: &[u32],
-    n: usize,
     rule: KeyRule,
     params: StitchParams,
     order: &mut [u32],
@@ -117,23 +88,12 @@ fn pass_over(
     keys: &mut [u32],
     out: &mut [u32],
 ) -> usize
-    requires { (n * size ≤ length list.now) × (n ≤ length order.old) × (n ≤ length column.old)
-        × (n * size ≤ length keys.old) × (n * size ≤ length out.old) × (n ≤ 4294967296) }
-    ensures passed { Passed rule params (peaks_of list.now n) column.old keys.old out.old result column.new keys.new out.new }
-    ensures order { drop n order.new ≡ drop n order.old }
+    requires { (length order.old * size ≤ length list.now) × (length order.old ≤ length column.old)
+        × (length order.old * size ≤ length keys.old) × (length order.old * size ≤ length out.old) × (length order.old ≤ 4294967296) }
+    ensures { Passed rule params (peaks_of list.now (length order.old)) column.old keys.old out.old result column.new keys.new out.new }
 {
-    digits::inner::count_up(&mut order[..n]);
-    pass_from(
-        list,
-        n,
-        rule,
-        params,
-        order,
-        column,
-        keys,
-        out,
-        rule.width(),
-    )
+    digits::inner::count_up(order);
+    pass(list, rule, params, order, column, keys, out, rule.width())
 }
 
 // Puts in the place of each number what `numbers` has there.
@@ -146,48 +106,44 @@ fn hand_on(numbers: &[u32], owners: &mut [u32])
     }
 }
 
-// Stitches the n records of `list`: the stitched records at the front of `out`, and for each record the place of its stitched
+// Stitches the first n records of `list`: the stitched records at the front of `out`, and for each record the place of its stitched
 // one in `owners`. Returns how many there are. `order` has the places in the order of their identities. `order` and `groups` are
-// used up to n places, `keys` and `merged` up to n records.
-pub fn stitch_peaks(list: &[u32], n: usize, params: StitchParams, lists: Lent) -> usize
-    requires { (n * size ≤ length list.now) × (n ≤ 4294967296) × (n * size ≤ length lists.out.now) × (n ≤ length lists.owners.now)
-        × (n ≤ length lists.order.now) × (n ≤ length lists.groups.now) × (n * size ≤ length lists.keys.now) × (n * size ≤ length lists.merged.now)
-        × (take n lists.order.now ≡ pass_order Identity (peaks_of list.now n)) }
-    ensures stitched { Stitched params (peaks_of list.now n) lists.entry.out.now lists.entry.owners.now result (out_in lists.exit) (owners_in lists.exit) }
-    ensures order { drop n (order_in lists.exit) ≡ drop n lists.entry.order.now }
-    ensures groups { drop n (groups_in lists.exit) ≡ drop n lists.entry.groups.now }
-    ensures keys { drop (n * size) (keys_in lists.exit) ≡ drop (n * size) lists.entry.keys.now }
-    ensures merged { drop (n * size) (merged_in lists.exit) ≡ drop (n * size) lists.entry.merged.now }
+// used up to n places, `keys` and `merged` up to n records. The count is handed in, as to `keys::inner::put_keys`.
+pub fn stitch_peaks(list: &[u32], n: usize, params: StitchParams, lists: &mut Lent<'_>) -> usize
+    requires { (n * size ≤ length list.now) × (n ≤ 4294967296) × (n * size ≤ length lists.old.out.now) × (n ≤ length lists.old.owners.now)
+        × (n ≤ length lists.old.order.now) × (n ≤ length lists.old.groups.now) × (n * size ≤ length lists.old.keys.now) × (n * size ≤ length lists.old.merged.now)
+        × (take n lists.old.order.now ≡ pass_order Identity (peaks_of list.now n)) }
+    ensures stitched { Stitched params (peaks_of list.now n) lists.old.out.now lists.old.owners.now result lists.new.out.now lists.new.owners.now }
+    ensures order { drop n lists.new.order.now ≡ drop n lists.old.order.now }
+    ensures groups { drop n lists.new.groups.now ≡ drop n lists.old.groups.now }
+    ensures keys { drop (n * size) lists.new.keys.now ≡ drop (n * size) lists.old.keys.now }
+    ensures merged { drop (n * size) lists.new.merged.now ≡ drop (n * size) lists.old.merged.now }
+    ensures same { SameLists lists.old lists.new }
 {
-    let Lent {
-        out,
-        owners,
-        order,
-        groups,
-        keys,
-        merged,
-    } = lists;
+    let order = &mut *lists.order;
+    let owners = &mut *lists.owners;
+    let groups = &mut *lists.groups;
+    let merged = &mut *lists.merged;
     // a key of the first pass has eight words; by the last, the identity, the places are in order
-    let m = pass_from(
+    let m = pass(
         list,
-        n,
         KeyRule::First(params),
         params,
-        order,
+        &mut order[..n],
         owners,
-        keys,
+        lists.keys,
         merged,
         7,
     );
+    let made = &*merged;
     let found = pass_over(
-        &merged[..m * ImPeak1D::WORDS],
-        m,
+        &made[..m * ImPeak1D::WORDS],
         KeyRule::Second,
         params,
-        order,
+        &mut order[..m],
         groups,
-        keys,
-        out,
+        lists.keys,
+        lists.out,
     );
     hand_on(groups, &mut owners[..n]);
     found

@@ -61,8 +61,8 @@ fn append_line(out: &mut [u8], at: usize, p: ImPeak1D) -> usize
     at + table::inner::put_peak_line(&mut out[at..], p)
 }
 
-// Writes the lines of the n apexes that stand in `found` to the front of `out`, the oldest first, and answers how many bytes
-// they are.
+// Writes the lines of the n apexes that stand in `found` to the front of `out`, the oldest first, and answers how many bytes they are. An
+// apex is some words of `found`, read at its place.
 fn put_peak_lines(found: &[u32], n: usize, y: &[f32], tof_row: u32, out: &mut [u8]) -> usize
     requires { Printable y.now (length out.old) × (n ≤ most_peaks (length y.now)) × ((ks : List ℕ) × Standing y.now y.now found.now n ks) }
     ensures { (ks : List ℕ) → Standing y.now y.now found.now n ks → Printed tof_row y.now out.old out.new result ks }
@@ -95,7 +95,8 @@ fn put_lines_by(
     put_peak_lines(scratch.found, n, y, tof_row, out)
 }
 
-// The same with scratch of its own, for a row of at most N samples. It is no part of its callers, so that each has the stack of one size alone.
+// The same with scratch of its own, for a row of at most N samples. It is no part of its callers, so that each has the stack of one size
+// alone. There is no heap, so the lists stand in the frame of this function, as those of `row::inner::list_in` do.
 #[inline(never)]
 fn put_lines_in<const N: usize, const B: usize, const F: usize>(
     y: &[f32],
@@ -149,7 +150,8 @@ fn put_row(s: RowsSoFar, row: &[f32], out: &mut [u8]) -> usize
     put_row_lines(&row[..n], s.rows - 1, s.params, out)
 }
 
-// Writes what is printed for a line with a verdict to the front of `out` and answers how many bytes that are.
+// Writes what is printed for a line with a verdict to the front of `out` and answers how many bytes that are. Each verdict holds what its
+// own text needs, and the text is chosen here alone.
 fn put_text(v: Verdict, row: &[f32], out: &mut [u8]) -> usize
     requires { Sound row.now v × (max_fields ≤ length row.now) × (line_room ≤ length out.old) }
     ensures count { result ≡ length (text_of row.now v) }

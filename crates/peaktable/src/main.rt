@@ -74,6 +74,7 @@ fn run(
     requires { (max_line < length buf.old) × (max_fields ≤ length row.old) × (line_room ≤ length out.old) }
 {
     let mut job = Job::start();
+    // A `loop` would need a measure, and an input has none.
     for _ in 0..u64::MAX {
         job = job.work(buf, row, out);
         if !job.goes_on {

@@ -16,6 +16,7 @@ ghost use Rattle.row.specs.RowNumber.{row_number};
 ghost use Rattle.probe.specs.Probe.{area_word, candidate_at, apex_f, has_place, sound_word};
 ghost use Rattle.probe.specs.Probe.{group_of, place_of, bounds_of, params_of, answer_word};
 
+use apex::inner::Level;
 use params::{FrameBounds, ImDetectParams, RowPlace};
 use record::ImPeak1D;
 
@@ -151,10 +152,11 @@ pub extern "C" fn probe_apex(function: u32, y: &[f32], i: usize) -> f32
         if function == 19 {
             return rise.prominence;
         }
+        let level = Level { y, h: rise.half, i };
         if function == 20 {
-            return apex::inner::left_crossing(y, rise.half, i);
+            return level.left_crossing();
         }
-        return apex::inner::right_crossing(y, rise.half, i);
+        return level.right_crossing();
     }
     0.0
 }

@@ -1,15 +1,16 @@
 -- Laws of counts and ranks, and of the search for an element by halving.
-use mathlib.Core.Path.{◌≡◌, refl, sym, ap, ◌∙◌, subst}
+use mathlib.Core.Path.{◌≡◌, refl, sym, ap, subst}
 use mathlib.Core.Bool.{Bool, true, false, cond, ◌&&◌}
-use mathlib.Core.List.{List, [], ◌∷◌, ◌++◌, append_assoc}
+use mathlib.Core.List.{List, [], ◌∷◌, ◌++◌}
 use Prim.Native.Nat.{ℕ, suc, ◌+◌, ◌≤◌, ◌<◌, max}
 use native.Mathlib.Numerals.{add-one}
 use native.Mathlib.Omega.{arith}
 use native.Mathlib.Nat.{le_trans}
-use borrow.Author.Tests.{ltb-true, ltb-false, leb-true, leb-false, lt-ltb, le-ltb, le-leb, lt-leb}
+use borrow.Author.Tests.{ltb-true, ltb-false, leb-true, leb-false, lt-ltb, le-ltb}
 use lib.Dec.{ltb, leb}
-use lib.ListN.{length, get_or, take, drop, set, drop_of_length-le}
-use lib.Seq.{drop-cons, take-suc, set_at, take_at, take_all, length-take-le}
+use lib.ListN.{length, get_or, take, drop, drop_of_length-le}
+use lib.Seq.{drop-cons, take_at}
+use mir.Val.{bool_byte}
 use Rattle.refusal.proofs.Bools.{clash}
 use Rattle.rank.specs.Rank.{counted, smaller, at_most, AtRank, first_at, ranked, highest_to}
 use Rattle.rank.specs.RankLaws.{OneAtRank}
@@ -30,9 +31,6 @@ counted-le p q (x ∷ xs) h = go (p x) refl (q x) refl (counted-le p q xs h)
 
 pub at-most-smaller : (v w : ℕ) (xs : List ℕ) → v < w → at_most v xs ≤ smaller w xs
 at-most-smaller v w xs h = counted-le (λ x. leb x v) (λ x. ltb x w) xs (λ x e. lt-ltb x w (let l = leb-true x v e in omega arith))
-
-pub smaller-next : (v : ℕ) (xs : List ℕ) → smaller (v + 1) xs ≤ at_most v xs
-smaller-next v xs = counted-le (λ x. ltb x (v + 1)) (λ x. leb x v) xs (λ x e. le-leb x v (let l = ltb-true x (v + 1) e in omega arith))
 
 pub smaller-zero : (xs : List ℕ) → smaller 0 xs ≡ 0
 unfolding counted
@@ -134,20 +132,6 @@ between-all xs k h = record {
   enough-to = rw (high_same 0xffff_ffff xs) h;
 }
 
-pub between-upper : (xs : List ℕ) (k lo hi mid : ℕ) → Between xs k lo hi → mid < hi → at_most mid xs ≤ k → Between xs k (mid + 1) hi
-between-upper xs k lo hi mid b l h = record {
-  ordered = omega arith;
-  few-below = le_trans (smaller-next mid xs) h;
-  enough-to = b.enough-to;
-}
-
-pub between_lower : (xs : List ℕ) (k lo hi mid : ℕ) → Between xs k lo hi → lo ≤ mid → k < at_most mid xs → Between xs k lo mid
-between_lower xs k lo hi mid b l h = record {
-  ordered = l;
-  few-below = b.few-below;
-  enough-to = h;
-}
-
 -- an upper end that counts as much
 pub between-tight : (xs : List ℕ) (k lo hi top : ℕ) → Between xs k lo hi → at_most top xs ≡ at_most hi xs → Between xs k lo top
 between-tight xs k lo hi top b e =
@@ -172,18 +156,18 @@ pub pass_step : (ws : List ℕ) (i x w : ℕ) → i < length ws → x ≡ get_or
 unfolding counted
 pass_step ws i x w h e = rw (add-one, drop-cons ws i 0 h, e)
 
-pub pass-in : (ws : List ℕ) (i x w n t : ℕ) → i < length ws → x ≡ get_or ws i 0 → x ≤ w → t ≡ n + at_most w (drop i ws) → t ≡ n + 1 + at_most w (drop (i + 1) ws)
-pass-in ws i x w n t h e l p = let s : at_most w (drop i ws) ≡ 1 + at_most w (drop (i + 1) ws) = pass_step ws i x w h e ∙ rw (le-leb x w l) in omega arith
+-- a test as a number
+pub as_number : (b : Bool) → bool_byte b ≡ cond b 1 0
+as_number true = refl
+as_number false = refl
 
-pub pass-out : (ws : List ℕ) (i x w n t : ℕ) → i < length ws → x ≡ get_or ws i 0 → w < x → t ≡ n + at_most w (drop i ws) → t ≡ n + at_most w (drop (i + 1) ws)
-pass-out ws i x w n t h e l p = let s : at_most w (drop i ws) ≡ 0 + at_most w (drop (i + 1) ws) = pass_step ws i x w h e ∙ rw (lt-leb x w l) in omega arith
+pub one-at-most : (b : Bool) → cond b 1 0 ≤ 1
+one-at-most true = omega arith
+one-at-most false = omega arith
 
 pub pass-end : (ws : List ℕ) (i w : ℕ) → length ws ≤ i → at_most w (drop i ws) ≡ 0
 unfolding counted
 pass-end ws i w h = rw (drop_of_length-le ws {i = i} h)
-
-pub more-counted : (t n r a b : ℕ) → t ≡ n + a → a ≡ r + b → t ≡ n + r + b
-more-counted t n r a b p q = omega arith
 
 pub high-step : (ws : List ℕ) (i x h m : ℕ) → i < length ws → x ≡ get_or ws i 0 → max m (highest_to h (drop i ws)) ≡ max (max m (cond (leb x h) x 0)) (highest_to h (drop (i + 1) ws))
 unfolding highest_to
@@ -197,18 +181,6 @@ unfolding highest_to
 high_end ws i h m l = rw (drop_of_length-le ws {i = i} l) (omega arith)
 
 -- ---- a list of words
-
--- the patterns p fill a list d from its front
-pub fill_start : (p d : List ℕ) → d ≡ take 0 p ++ drop 0 d
-fill_start p d = refl
-
-pub fill_step : (p d ws : List ℕ) (i v : ℕ) → i < length p → i < length d → v ≡ get_or p i 0 → ws ≡ take i p ++ drop i d → set ws i v ≡ take (i + 1) p ++ drop (i + 1) d
-fill_step p d ws i v h k e f =
-    rw (f, e, add-one, drop-cons d i 0 k, take-suc p i 0 h, append_assoc)
-    (set_at (take i p) (get_or d i 0) (drop (suc i) d) (get_or p i 0) i (length-take-le i p (omega arith)))
-
-pub fill_end : (p d ws : List ℕ) (i n : ℕ) → n ≡ length p → i ≡ n → ws ≡ take i p ++ drop i d → ws ≡ p ++ drop n d
-fill_end p d ws i n e j f = f ∙ rw (j, e, take_all (length p) p (omega arith))
 
 -- so they are its front
 pub filled-front : (p d ws : List ℕ) (n : ℕ) → n ≡ length p → ws ≡ p ++ drop n d → take n ws ≡ p

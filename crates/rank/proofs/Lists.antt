@@ -42,9 +42,6 @@ steps-at [] i h = absurd (omega arith)
 steps-at (x ∷ xs) i h = rw add-one (from_at x xs i (omega arith))
 
 -- ---- how many words
-pub count-readings : (xs : List Float) → length (words xs) ≡ length xs
-count-readings xs = length-map xs word
-
 pub count-distances : (m : Float) (xs : List Float) → length (words (distances m xs)) ≡ length xs
 count-distances m xs = length-map (distances m xs) word ∙ length-map xs (λ x. abs_f (x ⊖ m))
 
@@ -54,9 +51,6 @@ count-steps xs = length-map (steps xs) word ∙ steps-length xs
 -- ---- each word
 abs_word : (a b : Float) (w : ℕ) → w ≡ word (a ⊖ b) → w % 0x8000_0000 ≡ word (abs_f (a ⊖ b))
 abs_word a b w e = ap (λ (n : ℕ). n % 0x8000_0000) e ∙ sym (bits-abs (a ⊖ b) (sub-fits binary32 a b))
-
-pub reading-word : (xs : List Float) (i w : ℕ) → i < length xs → w ≡ word (at xs i) → w ≡ get_or (words xs) i 0
-reading-word xs i w h e = e ∙ sym (map_at word xs i nan 0 h)
 
 pub distance-word : (m : Float) (xs : List Float) (i w : ℕ) → i < length xs → w ≡ word (at xs i ⊖ m) → w % 0x8000_0000 ≡ get_or (words (distances m xs)) i 0
 distance-word m xs i w h e =

@@ -1,11 +1,11 @@
 // Reading and writing records in lists that the caller has checked.
-ghost use Rattle.std.specs.Prelude.{◌≡◌, ◌++◌, ◌≤◌, ◌+◌, ◌*◌, ltb, eqb, length, take, drop};
+ghost use Rattle.std.specs.Prelude.{◌≡◌, ◌++◌, ◌≤◌, ◌+◌, ◌*◌, ◌/◌, ltb, eqb, length, take, drop};
 ghost use Rattle.record.specs.Record.{size, id_place, id_words, id_at, words_of, peak_from, peak_at, with_peak};
 ghost use Rattle.record.specs.Record.{sound_tof, sound_frames, sound_options, sound_scans, sound_shape, sound, all_sound};
 
 use super::{ImPeak1D, PeakId};
 
-// Whether an identity is below another, and whether two are the same.
+// Whether an identity is below another, and whether two are the same: `<` and `==`, under names that have promises of their own.
 pub fn id_lt(a: PeakId, b: PeakId) -> bool
     ensures { result ≡ ltb a b }
 {
@@ -124,6 +124,7 @@ pub fn put_peak(out: &mut [u32], k: usize, p: ImPeak1D)
 
 // What number 9 asks of the fields, by the words of the record at the front of a list: a float from 0 to a limit has a word up
 // to the limit's, every other float a higher one, and floats from 0 on compare as their words.
+#[tactic(auto, unfolding(crate::specs::Record::sound_tof, crate::specs::Record::peak_from))]
 fn sound_tof(w: &[u32]) -> bool
     requires { size ≤ length w.now }
     ensures { result ≡ sound_tof (peak_from w.now 0) }
@@ -134,6 +135,7 @@ fn sound_tof(w: &[u32]) -> bool
         & (w[ImPeak1D::TOF_HI] <= limits::MAX_TOF_BOUND)
 }
 
+#[tactic(auto, unfolding(crate::specs::Record::sound_frames, crate::specs::Record::peak_from))]
 fn sound_frames(w: &[u32]) -> bool
     requires { size ≤ length w.now }
     ensures { result ≡ sound_frames (peak_from w.now 0) }
@@ -155,6 +157,7 @@ fn sound_options(w: &[u32]) -> bool
         & (!mobility | (w[ImPeak1D::MOBILITY] <= limits::MAX_MOBILITY))
 }
 
+#[tactic(auto, unfolding(crate::specs::Record::sound_scans, crate::specs::Record::peak_from))]
 fn sound_scans(w: &[u32]) -> bool
     requires { size ≤ length w.now }
     ensures { result ≡ sound_scans (peak_from w.now 0) }
@@ -183,6 +186,7 @@ fn sound_shape(w: &[u32]) -> bool
 
 // Whether number 9 does not apply to the record at the front of a list: every field in range, and no low bound above its high
 // one.
+#[tactic(auto, unfolding(crate::specs::Record::sound))]
 fn sound_words(w: &[u32]) -> bool
     requires { size ≤ length w.now }
     ensures { result ≡ sound (peak_from w.now 0) }
@@ -199,14 +203,12 @@ pub fn is_sound(p: ImPeak1D) -> bool
     sound_words(&words)
 }
 
-// Whether it applies to none of the first n peaks of a list.
-pub fn all_sound(list: &[u32], n: usize) -> bool
-    requires { n * size ≤ length list.now }
-    ensures { result ≡ all_sound list.now n }
+// Whether it applies to none of the peaks of a list.
+pub fn all_sound(list: &[u32]) -> bool
+    ensures { result ≡ all_sound list.now (length list.now / size) }
 {
-    for k in 0..n {
-        let at = k * ImPeak1D::WORDS;
-        if !sound_words(&list[at..]) {
+    for words in list.chunks_exact(ImPeak1D::WORDS) {
+        if !sound_words(words) {
             return false;
         }
     }

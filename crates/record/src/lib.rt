@@ -7,7 +7,8 @@ pub mod inner;
 pub use limits::PeakId;
 
 // A mobility peak. Three of its fields may be missing: the window group, the mobility and the scan sigma. A bit of `flags`
-// tells whether each is there, and the field of one that is missing is 0.
+// tells whether each is there, and the field of one that is missing is 0: the C interface has these words, and a record is read back with
+// any flags, so none of the three is an Option.
 #[derive(Clone, Copy)]
 pub struct ImPeak1D {
     pub tof_row: u32,

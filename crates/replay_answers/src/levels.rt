@@ -7,8 +7,8 @@
 //  places of the lent list; scale, bounds, group (0 or 1, and its number), parameters and first identity; the five lists; then
 //  the number, the count and the words of the list. The scratch must keep what it has, past the columns, or after a refusal
 //  everywhere.
-use super::lines::{Answer, after};
-use hexlines::parts::{between, front, word};
+use super::lines::{Answer, ROOM, floats, words};
+use hexlines::parts::{Line, front, word};
 use params::{FrameBounds, ImDetectParams};
 use tof::TofScale;
 
@@ -97,10 +97,9 @@ fn grid_answer<'a>(
 }
 
 // The number, the count and a list of that many peaks. After a refusal no scratch may have changed.
-fn peaks(at: usize, r: u64, scratched: usize) -> Answer {
+fn peaks(r: u64, scratched: usize) -> Answer {
     let count = r / 64 % 4096;
     Answer {
-        at,
         head: 2,
         words: [(r % 64) as u32, count as u32, 0, 0, 0],
         rest: count as usize * 27,
@@ -108,63 +107,56 @@ fn peaks(at: usize, r: u64, scratched: usize) -> Answer {
     }
 }
 
-pub(crate) fn row(w: &[u32], f: &[f32], out: &mut [u32]) -> Answer {
-    let a = after(w, 1, 20);
-    let b = after(w, 2, a);
-    let c = after(w, 3, b);
-    let d = after(w, 4, c);
-    let list = front(out, after(w, 5, 0) * 27);
-    let r = row_answer(
-        w,
-        between(f, 20, a),
-        between(f, a, b),
-        between(w, b, c),
-        between(f, c, d),
-        list,
-    );
-    peaks(d, r, 0)
+// What is lent for records: as many places as word i of a line's head says, each of a record.
+fn records<'a>(out: &'a mut [u32; ROOM], head: &[u32], i: usize) -> &'a mut [u32] {
+    front(out, word(head, i) as usize * 27)
 }
 
-pub(crate) fn grid(w: &[u32], f: &[f32], out: &mut [u32], scratch: &mut [f32]) -> Answer {
-    let a = after(w, 3, 24);
-    let b = after(w, 4, a);
-    let c = after(w, 5, b);
-    let d = after(w, 6, c);
-    let e = after(w, 7, d);
-    let list = front(out, after(w, 9, 0) * 27);
-    let space = front(scratch, after(w, 8, 0));
-    let r = grid_answer(
-        w,
-        between(f, 24, a),
-        between(f, a, b),
-        between(w, b, c),
-        between(f, c, d),
-        between(f, d, e),
-        list,
-        space,
-    );
-    peaks(e, r, after(w, 2, 0))
+pub(crate) fn row(line: &mut Line<'_>, out: &mut [u32; ROOM]) -> Option<Answer> {
+    let head = line.take_words(20)?;
+    let y = floats(line, head, 1)?;
+    let z = floats(line, head, 2)?;
+    let axis = words(line, head, 3)?;
+    let mobility = floats(line, head, 4)?;
+    let r = row_answer(head, y, z, axis, mobility, records(out, head, 5));
+    Some(peaks(r, 0))
 }
 
-// The row of a line of smoothing; none of other lines.
-pub(crate) fn row_to_smooth(w: &[u32]) -> &[u32] {
-    if word(w, 0) == 33 {
-        return between(w, 4, after(w, 1, 4));
-    }
-    between(w, 0, 0)
+pub(crate) fn grid(
+    line: &mut Line<'_>,
+    out: &mut [u32; ROOM],
+    scratch: &mut [f32; ROOM],
+) -> Option<Answer> {
+    let head = line.take_words(24)?;
+    let data = floats(line, head, 3)?;
+    let raw = floats(line, head, 4)?;
+    let scans = words(line, head, 5)?;
+    let mobility = floats(line, head, 6)?;
+    let weights = floats(line, head, 7)?;
+    let space = front(scratch, word(head, 8) as usize);
+    let list = records(out, head, 9);
+    let r = grid_answer(head, data, raw, scans, mobility, weights, list, space);
+    Some(peaks(r, word(head, 2) as usize))
 }
 
-pub(crate) fn smoothing(w: &[u32], f: &[f32], v: &mut [f32], scratch: &mut [f32]) -> Answer {
-    let n = after(w, 1, 0);
-    let a = after(w, 1, 4);
-    let b = after(w, 2, a);
-    let k = after(w, 3, 0);
-    let number = probe::probe_smooth(front(v, n), between(f, a, b), front(scratch, k));
-    Answer {
-        at: b,
+// The row of a line of smoothing is lent as it stands in the line.
+pub(crate) fn smoothing(
+    line: &mut Line<'_>,
+    v: &mut [f32; ROOM],
+    scratch: &mut [f32; ROOM],
+) -> Option<Answer> {
+    let head = line.take_words(4)?;
+    let row = floats(line, head, 1)?;
+    let weights = floats(line, head, 2)?;
+    let n = row.len();
+    let k = word(head, 3) as usize;
+    let lent = v.get_mut(..n)?;
+    lent.copy_from_slice(row);
+    let number = probe::probe_smooth(lent, weights, front(scratch, k));
+    Some(Answer {
         head: 1,
         words: [number, 0, 0, 0, 0],
         rest: n,
         scratched: k,
-    }
+    })
 }

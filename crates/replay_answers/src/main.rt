@@ -7,37 +7,40 @@ mod levels;
 mod lines;
 mod scales;
 
-use hexlines::parts::{spread, word};
-use lines::ROOM;
+use hexlines::parts::{Line, spread, word};
+use lines::{Answer, ROOM};
 
-// The port's answer to a line; the floats of the line and the row to smooth are handed in.
+// The port's answer to a line; None where the line is too short for its call, or of no function.
 fn answer(
-    w: &[u32],
-    f: &[f32],
-    v: &mut [f32],
-    out: &mut [u32],
-    scratch: &mut [f32],
-) -> lines::Answer {
-    let function = word(w, 0);
-    if function < 32 {
-        return leaves::leaf(w, f);
-    }
+    function: u32,
+    line: &mut Line<'_>,
+    v: &mut [f32; ROOM],
+    out: &mut [u32; ROOM],
+    scratch: &mut [f32; ROOM],
+) -> Option<Answer> {
     match function {
-        32 => levels::row(w, f, out),
-        33 => levels::smoothing(w, f, v, scratch),
-        40 => scales::build(w),
-        48 => levels::grid(w, f, out, scratch),
-        _ => scales::scale(w),
+        0..32 => leaves::leaf(line),
+        32 => levels::row(line, out),
+        33 => levels::smoothing(line, v, scratch),
+        40 => scales::build(line),
+        48 => levels::grid(line, out, scratch),
+        _ => scales::scale(line),
     }
 }
 
-fn agrees(words: &[u32]) -> bool {
+// Whether a line has its answer, with fresh lists lent.
+fn judged(words: &[u32]) -> Option<bool> {
     let f: [f32; ROOM] = spread(words);
-    let mut v: [f32; ROOM] = spread(levels::row_to_smooth(words));
+    let mut v = [0f32; ROOM];
     let mut out = [0u32; ROOM];
     let mut scratch = [7f32; ROOM];
-    let a = answer(words, &f, &mut v, &mut out, &mut scratch);
-    lines::judged(words, a, &out, &v, &scratch)
+    let mut line = Line::new(words, &f);
+    let a = answer(word(words, 0), &mut line, &mut v, &mut out, &mut scratch)?;
+    lines::judged(line, a, &out, &v, &scratch)
+}
+
+fn agrees(words: &[u32]) -> bool {
+    judged(words).unwrap_or(false)
 }
 
 fn main(rt: HostRuntime) {

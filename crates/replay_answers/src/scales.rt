@@ -8,62 +8,70 @@
 //  43, center: a bin; then kind, centre and 0.
 //  44, center_at: a place between bins; then kind, centre and 0.
 //  45, tof_bounds_for_row: a bin; then kind, low and high edge.
-use super::lines::{Answer, after, short};
-use hexlines::parts::{between, word};
+use super::lines::{Answer, short, words};
+use hexlines::parts::{Line, word};
 use refusal::Refusal;
 use tof::TofScale;
 
-// What stands for a refusal.
-fn refused(at: usize, head: usize, refusal: Refusal) -> Answer {
-    short(at, head, 2, refusal.number(), 0)
+// The first value of such an answer, and what stands behind it.
+fn worked(a: u32, b: u32) -> Answer {
+    short(3, 0, a, b)
 }
 
-pub(crate) fn build(w: &[u32]) -> Answer {
-    let at = after(w, 2, 3);
-    match TofScale::build_from_frames(between(w, 3, at), word(w, 1)) {
+fn refused(refusal: Refusal) -> Answer {
+    short(3, 2, refusal.number(), 0)
+}
+
+pub(crate) fn build(line: &mut Line<'_>) -> Option<Answer> {
+    let head = line.take_words(3)?;
+    let tofs = words(line, head, 2)?;
+    let a = match TofScale::build_from_frames(tofs, word(head, 1)) {
         Ok(Some(s)) => Answer {
-            at,
-            head: 5,
             words: [0, s.tof_min, s.tof_max, s.tof_step, s.num_bins],
-            rest: 0,
-            scratched: 0,
+            ..worked(0, 0)
         },
-        Ok(None) => short(at, 5, 1, 0, 0),
-        Err(refusal) => refused(at, 5, refusal),
-    }
+        Ok(None) => short(3, 1, 0, 0),
+        Err(refusal) => refused(refusal),
+    };
+    Some(Answer { head: 5, ..a })
 }
 
 fn center(r: Result<f32, Refusal>) -> Answer {
     match r {
-        Ok(x) => short(6, 3, 0, numeric::word_of(x), 0),
-        Err(refusal) => refused(6, 3, refusal),
+        Ok(x) => worked(numeric::word_of(x), 0),
+        Err(refusal) => refused(refusal),
     }
 }
 
-pub(crate) fn scale(w: &[u32]) -> Answer {
-    let s = TofScale {
-        tof_min: word(w, 1),
-        tof_max: word(w, 2),
-        tof_step: word(w, 3),
-        num_bins: word(w, 4),
-    };
-    let x = word(w, 5);
-    match word(w, 0) {
+// The answer of a function of a scale. A match on its number, which the stored line has.
+fn answer(function: u32, s: TofScale, x: u32, line: &mut Line<'_>) -> Option<Answer> {
+    Some(match function {
         41 => match s.index_of_tof(x) {
-            Ok(Some(i)) => short(6, 3, 0, i, 0),
-            Ok(None) => short(6, 3, 1, 0, 0),
-            Err(refusal) => refused(6, 3, refusal),
+            Ok(Some(i)) => worked(i, 0),
+            Ok(None) => short(3, 1, 0, 0),
+            Err(refusal) => refused(refusal),
         },
-        42 => match s.index_range_for_tof_window(x, word(w, 6)) {
-            Ok(bins) => short(7, 3, 0, bins.lo, bins.hi),
-            Err(refusal) => refused(7, 3, refusal),
+        42 => match s.index_range_for_tof_window(x, word(line.take_words(1)?, 0)) {
+            Ok(bins) => worked(bins.lo, bins.hi),
+            Err(refusal) => refused(refusal),
         },
         43 => center(s.center(x)),
         44 => center(s.center_at(numeric::float_of(x))),
         45 => match s.tof_bounds_for_row(x) {
-            Ok((lo, hi)) => short(6, 3, 0, numeric::word_of(lo), numeric::word_of(hi)),
-            Err(refusal) => refused(6, 3, refusal),
+            Ok((lo, hi)) => worked(numeric::word_of(lo), numeric::word_of(hi)),
+            Err(refusal) => refused(refusal),
         },
-        _ => short(0, 0, 0, 0, 0),
-    }
+        _ => return None,
+    })
+}
+
+pub(crate) fn scale(line: &mut Line<'_>) -> Option<Answer> {
+    let head = line.take_words(6)?;
+    let s = TofScale {
+        tof_min: word(head, 1),
+        tof_max: word(head, 2),
+        tof_step: word(head, 3),
+        num_bins: word(head, 4),
+    };
+    answer(word(head, 0), s, word(head, 5), line)
 }

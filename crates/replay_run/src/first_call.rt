@@ -1,27 +1,29 @@
 // A line of the first call: 10; the lengths of record, frame numbers and times; the nine numbers of the parameters; the words that are
 // lent; the three lists. Then the number, the count, and the window.
-use super::lines::{BEFORE, ROOM, after, has};
-use hexlines::parts::{between, front, word};
+use super::lines::{BEFORE, ROOM, Stored, float, floats, has, lent, words};
+use hexlines::parts::{Line, word};
 
-pub(crate) fn agrees(w: &[u32], f: &[f32]) -> bool {
-    let a = after(w, 1, 14);
-    let b = after(w, 2, a);
-    let c = after(w, 3, b);
+pub(crate) fn agrees(line: &mut Line<'_>) -> Option<bool> {
+    let head = line.take_words(14)?;
+    let record = words(line, head, 1)?;
+    let ids = words(line, head, 2)?;
+    let times = floats(line, head, 3)?;
+    let stored = Stored::next(line, 1)?;
     let mut out = [BEFORE; ROOM];
     let r = rtapi::window::rubzolena_expand_window(
-        between(w, 14, a),
-        between(w, a, b),
-        between(f, b, c),
-        word(w, 4),
-        numeric::float_of(word(w, 5)),
-        word(w, 6),
-        numeric::float_of(word(w, 7)),
-        numeric::float_of(word(w, 8)),
-        numeric::float_of(word(w, 9)),
-        word(w, 10),
-        numeric::float_of(word(w, 11)),
-        word(w, 12),
-        front(&mut out, word(w, 13) as usize),
+        record,
+        ids,
+        times,
+        word(head, 4),
+        float(head, 5),
+        word(head, 6),
+        float(head, 7),
+        float(head, 8),
+        float(head, 9),
+        word(head, 10),
+        float(head, 11),
+        word(head, 12),
+        lent(&mut out, head, 13),
     );
-    super::alone::answers(w, c, r) & has(&out, super::alone::written(w, c))
+    Some(stored.is(r) & has(&out, line.rest()))
 }

@@ -1,12 +1,14 @@
 // A line of a frame: 1; the lengths of its TOF values, scans and readings; the scale, the count of scans and the points before it; the
 // words that are lent of the seven lists; the three lists. Then the number, the counts of bins, offsets and points, and these.
-use super::lines::{BEFORE, ROOM, after, has, kept, patterns, plus};
-use hexlines::parts::{between, front, word};
+use super::lines::{BEFORE, ROOM, Stored, floats, has, kept, lent, patterns, words};
+use hexlines::parts::{Line, word};
 
-pub(crate) fn agrees(w: &[u32], f: &[f32]) -> bool {
-    let a = after(w, 1, 17);
-    let b = after(w, 2, a);
-    let c = after(w, 3, b);
+pub(crate) fn agrees(line: &mut Line<'_>) -> Option<bool> {
+    let head = line.take_words(17)?;
+    let tofs = words(line, head, 1)?;
+    let points = words(line, head, 2)?;
+    let values = floats(line, head, 3)?;
+    let stored = Stored::next(line, 3)?;
     let mut bins = [BEFORE; ROOM];
     let mut offsets = [BEFORE; ROOM];
     let mut scans = [BEFORE; ROOM];
@@ -15,39 +17,33 @@ pub(crate) fn agrees(w: &[u32], f: &[f32]) -> bool {
     let mut order = [BEFORE; ROOM];
     let mut spare = [BEFORE; ROOM];
     let r = framesapi::view::rubzolena_build_frame_bin_view(
-        between(w, 17, a),
-        between(w, a, b),
-        between(f, b, c),
-        word(w, 4),
-        word(w, 5),
-        word(w, 6),
-        word(w, 7),
-        word(w, 8),
-        word(w, 9) as usize,
-        front(&mut bins, word(w, 10) as usize),
-        front(&mut offsets, word(w, 11) as usize),
-        front(&mut scans, word(w, 12) as usize),
-        front(&mut readings, word(w, 13) as usize),
-        front(&mut keys, word(w, 14) as usize),
-        front(&mut order, word(w, 15) as usize),
-        front(&mut spare, word(w, 16) as usize),
+        tofs,
+        points,
+        values,
+        word(head, 4),
+        word(head, 5),
+        word(head, 6),
+        word(head, 7),
+        word(head, 8),
+        word(head, 9) as usize,
+        lent(&mut bins, head, 10),
+        lent(&mut offsets, head, 11),
+        lent(&mut scans, head, 12),
+        lent(&mut readings, head, 13),
+        lent(&mut keys, head, 14),
+        lent(&mut order, head, 15),
+        lent(&mut spare, head, 16),
     );
-    let g = after(w, plus(c, 1), plus(c, 4));
-    let h = after(w, plus(c, 2), g);
-    let i = after(w, plus(c, 3), h);
-    let j = after(w, plus(c, 3), i);
-    let used = if word(w, c) == 0 {
-        word(w, 1) as usize
-    } else {
-        0
-    };
-    (r == (word(w, plus(c, 1)) as u64) * 64 + word(w, c) as u64)
-        & (j == w.len())
-        & has(&bins, between(w, plus(c, 4), g))
-        & has(&offsets, between(w, g, h))
-        & has(&scans, between(w, h, i))
-        & has(&patterns(&readings), between(w, i, j))
-        & kept(&keys, used)
-        & kept(&order, used)
-        & kept(&spare, used)
+    let used = stored.used(tofs.len());
+    Some(
+        stored.is(r)
+            & has(&bins, line.take_words(stored.count(0))?)
+            & has(&offsets, line.take_words(stored.count(1))?)
+            & has(&scans, line.take_words(stored.count(2))?)
+            & has(&patterns(&readings), line.take_words(stored.count(2))?)
+            & line.rest().is_empty()
+            & kept(&keys, used)
+            & kept(&order, used)
+            & kept(&spare, used),
+    )
 }

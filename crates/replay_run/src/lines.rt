@@ -1,5 +1,7 @@
-// Lists that are lent, and places in a line.
-ghost use Rattle.std.specs.Prelude.{◌≤◌};
+// Lists that are lent, and the answer of a line.
+ghost use Rattle.std.specs.Prelude.{◌≤◌, ◌<◌};
+
+use hexlines::parts::{Line, front, word};
 
 // The words that a line may have, and those that are lent at most.
 pub(crate) const ROOM: usize = 1024;
@@ -7,21 +9,56 @@ pub(crate) const ROOM: usize = 1024;
 // What a lent list holds at first; as a float, 7.0.
 pub(crate) const BEFORE: u32 = 0x40e0_0000;
 
-// The end of a list that starts at a place and whose length is word i; past every line where the line is too short.
-pub(crate) fn after(words: &[u32], i: usize, at: usize) -> usize
-    ensures { result ≤ 2048 }
-{
-    hexlines::parts::after::<ROOM>(words, i, at)
+// The next list of a line, whose length is word i of its head.
+pub(crate) fn words<'a>(line: &mut Line<'a>, head: &[u32], i: usize) -> Option<&'a [u32]> {
+    line.take_words(word(head, i) as usize)
 }
 
-// A place a few words on.
-pub(crate) fn plus(at: usize, few: usize) -> usize {
-    if at <= 2048 {
-        if few <= 4 {
-            return at + few;
-        }
+pub(crate) fn floats<'a>(line: &mut Line<'a>, head: &[u32], i: usize) -> Option<&'a [f32]> {
+    line.take_floats(word(head, i) as usize)
+}
+
+// What is lent of a list: as many places as word i of a line's head says.
+pub(crate) fn lent<'a, T>(list: &'a mut [T; ROOM], head: &[u32], i: usize) -> &'a mut [T] {
+    front(list, word(head, i) as usize)
+}
+
+pub(crate) fn float(head: &[u32], i: usize) -> f32 {
+    numeric::float_of(word(head, i))
+}
+
+// A number and the counts behind it, as a line has them.
+#[derive(Clone, Copy)]
+pub(crate) struct Stored<'a> {
+    words: &'a [u32],
+}
+
+impl<'a> Stored<'a> {
+    // The next words of a line: the number, and so many counts.
+    pub(crate) fn next(line: &mut Line<'a>, counts: usize) -> Option<Self>
+        requires { counts ≤ 3 }
+    {
+        Some(Stored {
+            words: line.take_words(1 + counts)?,
+        })
     }
-    at
+
+    pub(crate) fn count(self, i: usize) -> usize
+        requires { i ≤ 3 }
+        ensures { result < 0x1_0000_0000 }
+    {
+        word(self.words, i + 1) as usize
+    }
+
+    // Whether a call answered the number and the first count.
+    pub(crate) fn is(self, r: u64) -> bool {
+        r == word(self.words, 1) as u64 * 64 + word(self.words, 0) as u64
+    }
+
+    // What of scratch may have changed: so many places of an accepted call.
+    pub(crate) fn used(self, n: usize) -> usize {
+        if word(self.words, 0) == 0 { n } else { 0 }
+    }
 }
 
 // Whether a lent list has some words at its front and is as it was past them.

@@ -10,20 +10,25 @@ mod lines;
 mod second_call;
 mod sums;
 
-use hexlines::parts::{spread, word};
+use hexlines::parts::{Line, spread, word};
 use lines::ROOM;
+
+// None where a line is too short for its call. A match on the function, whose number the stored line has.
+fn agrees_in(function: u32, line: &mut Line<'_>) -> Option<bool> {
+    match function {
+        1 => frames::agrees(line),
+        7 => alone::noise_agrees(line),
+        8 => alone::search_agrees(line),
+        9 => alone::fallback_agrees(line),
+        10 => first_call::agrees(line),
+        11 | 12 => second_call::agrees(line),
+        _ => sums::agrees(line),
+    }
+}
 
 fn agrees(words: &[u32]) -> bool {
     let f: [f32; ROOM] = spread(words);
-    match word(words, 0) {
-        1 => frames::agrees(words, &f),
-        7 => alone::noise_agrees(words, &f),
-        8 => alone::search_agrees(words, &f),
-        9 => alone::fallback_agrees(words, &f),
-        10 => first_call::agrees(words, &f),
-        11 | 12 => second_call::agrees(words, &f),
-        _ => sums::agrees(words, &f),
-    }
+    agrees_in(word(words, 0), &mut Line::new(words, &f)).unwrap_or(false)
 }
 
 fn main(rt: HostRuntime) {

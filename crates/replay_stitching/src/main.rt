@@ -13,8 +13,8 @@ ghost use Rattle.replay_stitching.specs.Replay.{room, agrees};
 use hexlines::replay::{Tally, replay_all};
 use std::io::Read;
 
-// Counts the lines that are read, and those among them that do not have their answer. The contract speaks of some bytes: it cannot say that they
-// are those of the input.
+// Counts the lines that are read, and those among them that do not have their answer. The contract speaks of some bytes: it cannot say
+// that they are those of the input.
 fn replay(input: &mut impl Read) -> Tally
     ensures { (bytes : List ℕ) × (result ≡ (fold (replayed agrees room) at_start bytes).tally) }
 {

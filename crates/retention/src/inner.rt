@@ -54,6 +54,7 @@ fn list_in<const N: usize, const B: usize, const F: usize>(
     ensures count { result ≡ length (rt_peaks asked.floor asked.sep asked.min_width trace.entry.smoothed.now trace.entry.raw.now trace.entry.times.now) }
     ensures front { out.new ≡ peak_words (rt_peaks asked.floor asked.sep asked.min_width trace.entry.smoothed.now trace.entry.raw.now trace.entry.times.now) ++ drop (result * local_size) out.old }
 {
+    // Three arrays and a struct of them: a function that lends them to a closure would have more lines.
     let mut turns = [0u32; N];
     let mut bases = [0u32; B];
     let mut found = [0u32; F];

@@ -73,7 +73,8 @@ fn sample_at(x: f32, last: f32) -> u32
     numeric::cast_sat(numeric::clamp(x, 0.0, last))
 }
 
-// Rust's `x.floor().clamp(0.0, last) as u32`.
+// Rust's `x.floor().clamp(0.0, last) as u32`. One step for this and the next would take the test and the function, and be longer than
+// either.
 pub fn floor_sample(x: f32, g: usize, last: f32) -> u32
     ensures { result ≡ cast_f (clamp_f (floor_f x) 𝟎 last) }
 {

@@ -2,14 +2,14 @@
 use mathlib.Core.Path.{◌≡◌, refl, sym, ap, ◌∙◌, subst}
 use mathlib.Core.Bool.{true}
 use mathlib.Core.List.{List, [], ◌∷◌, ◌++◌, append_assoc}
-use Prim.Native.Nat.{ℕ, zero, suc, ◌≤◌, ◌<◌, ◌+◌, ◌*◌}
+use Prim.Native.Nat.{ℕ, ◌≤◌, ◌<◌, ◌+◌, ◌*◌}
 use native.Mathlib.Omega.{arith}
-use native.Mathlib.Nat.{zero-mul, one-mul, add-mul, mul_assoc}
+use native.Mathlib.Nat.{zero-mul, one-mul, add-mul, mul_assoc, mul-le-mul_right}
 use borrow.Author.Tests.{not-false, eqb-true, ltb-false, leb-true}
 use lib.Dec.{eqb}
 use lib.ListN.{length, get_or, take, drop, get_or-eq_default}
 use lib.Seq.{take_at, drop-drop, drop-append-add}
-use lib.Ieee.{Float, nan, binary32, neg, of_bits}
+use lib.Ieee.{Float, binary32, neg, of_bits}
 use Rattle.limits.specs.Limits.{max_samples, any_number, max_height, identities, exact_index}
 use Rattle.numeric.specs.Arith.{at, 𝟎, ½}
 use Rattle.numeric.specs.Numeric.{all_in_range}
@@ -36,28 +36,14 @@ use Rattle.row.proofs.RowWords.{row-words-length}
 use Rattle.row.specs.Written.{Written, as_words, stride, with_record}
 use Rattle.row.specs.Steps.{Writable, Numbers, Inside, RecordsPut}
 
--- the default does not matter inside of a list
-default-out : {A : Type 0} (l : List A) (i : ℕ) (d e : A) → i < length l → get_or l i d ≡ get_or l i e
-default-out [] i d e h = absurd (omega arith)
-default-out (a ∷ l) zero d e h = refl
-default-out (a ∷ l) (suc i) d e h = default-out l i d e (omega arith)
-
 -- ---- the mobility table
-pub mobility-in : (t : List Float) (i : ℕ) → i < length t → get_or t i nan ≡ mobility_at t i
+pub mobility-in : (t : List Float) (i : ℕ) → i < length t → get_or t i 𝟎 ≡ mobility_at t i
 mobility-in [] i h = absurd (omega arith)
-mobility-in (m ∷ ms) i h = default-out (m ∷ ms) i nan 𝟎 h
+mobility-in (m ∷ ms) i h = refl
 
 pub mobility-out : (t : List Float) (i : ℕ) → length t ≤ i → 𝟎 ≡ mobility_at t i
 mobility-out [] i h = refl
 mobility-out (m ∷ ms) i h = sym (get_or-eq_default (m ∷ ms) 𝟎 h)
-
-pub flag-none : (t : List Float) → length t ≡ 0 → mobility_flag t ≡ 0
-flag-none [] h = refl
-flag-none (m ∷ ms) h = absurd (omega arith)
-
-pub flag-some : (t : List Float) → 0 < length t → mobility_flag t ≡ 2
-flag-some [] h = absurd (omega arith)
-flag-some (m ∷ ms) h = refl
 
 pub mobility-flag-le : (t : List Float) → mobility_flag t ≤ 2
 mobility-flag-le [] = omega arith
@@ -138,18 +124,27 @@ module _ (y z : List Float) (axis found ks : List ℕ) (j : ℕ) (a : Measured) 
       }
 
 -- ---- the list
-length-zero : (l : List ℕ) → length l ≡ 0 → l ≡ []
+length-zero : {A : Type 0} (l : List A) → length l ≡ 0 → l ≡ []
 length-zero [] e = refl
 length-zero (x ∷ xs) e = absurd (omega arith)
 
-pub put-none : (w : Written) → w.put [] ≡ []
+pub put-none : {T : Type 0} (w : Written T) → w.put [] ≡ []
 put-none w = length-zero (w.put []) (w.long [] ∙ zero-mul w.unit)
 
-pub put-length : (w : Written) (ws : List ℕ) (n : ℕ) → length ws ≡ n * size → length (w.put ws) ≡ n * stride w
+pub put-length : {T : Type 0} (w : Written T) (ws : List ℕ) (n : ℕ) → length ws ≡ n * size → length (w.put ws) ≡ n * stride w
 put-length w ws n e = w.long ws ∙ rw e (mul_assoc n size w.unit)
 
+-- the record at place j stands inside of a list with room for so many words
+pub record-fits : {T : Type 0} (w : Written T) (j room long : ℕ) → (j + 1) * size ≤ room → room * w.unit ≤ long → j * stride w + stride w ≤ long
+record-fits w j room long a b =
+    let K = stride w in
+    let m : (j + 1) * K ≡ j * K + K = add-mul j 1 K ∙ ap (λ (k : ℕ). j * K + k) (one-mul K) in
+    let c : (j + 1) * size * w.unit ≡ (j + 1) * K = mul_assoc (j + 1) size w.unit in
+    let d : (j + 1) * size * w.unit ≤ room * w.unit = mul-le-mul_right w.unit a in
+    omega (arith, m, c, d, b)
+
 module _ (place : RowPlace) (bounds : FrameBounds) (mobility : List Float) (axis : List ℕ) (y z : List Float) (first : ℕ) where
-  pub listed-none : (w : Written) (d : List ℕ) → RecordsPut w place bounds mobility axis y z first d d 0 []
+  pub listed-none : {T : Type 0} (w : Written T) (d : List T) → RecordsPut w place bounds mobility axis y z first d d 0 []
   unfolding row_words
   listed-none w d = record { count = refl; front = rw (put-none w, zero-mul (stride w)) }
 
@@ -158,7 +153,7 @@ module _ (place : RowPlace) (bounds : FrameBounds) (mobility : List Float) (axis
   none-words d = refl
 
   -- one more record behind them
-  pub one-listed : (w : Written) (es d out next : List ℕ) (n i : ℕ) (peak : ImPeak1D) → RecordsPut w place bounds mobility axis y z first d out n es
+  pub one-listed : {T : Type 0} (w : Written T) (es : List ℕ) (d out next : List T) (n i : ℕ) (peak : ImPeak1D) → RecordsPut w place bounds mobility axis y z first d out n es
       → peak ≡ peak_of place bounds mobility axis y z i (first + n) → next ≡ with_record w out n peak → RecordsPut w place bounds mobility axis y z first d next (n + 1) (i ∷ es)
   unfolding row_words with_record
   one-listed w es d out next n i peak h e o =
@@ -179,7 +174,7 @@ module _ (place : RowPlace) (bounds : FrameBounds) (mobility : List Float) (axis
       }
 
   -- the next of the kept apexes
-  pub next-listed : (w : Written) (found ks d out last : List ℕ) (j : ℕ) (peak : ImPeak1D) (n : Next y z found ks j) → RecordsPut w place bounds mobility axis y z first d out j (oldest j ks)
+  pub next-listed : {T : Type 0} (w : Written T) (found ks : List ℕ) (d out last : List T) (j : ℕ) (peak : ImPeak1D) (n : Next y z found ks j) → RecordsPut w place bounds mobility axis y z first d out j (oldest j ks)
       → peak ≡ peak_of place bounds mobility axis y z n.apex (first + j) → last ≡ with_record w out j peak → RecordsPut w place bounds mobility axis y z first d last (j + 1) (oldest (j + 1) ks)
   next-listed w found ks d out last j peak n h e o = rw n.is (one-listed w (oldest j ks) d out last j n.apex peak h e o)
 

@@ -38,6 +38,6 @@ pub record Inside (y z : List Float) (axis : List ℕ) (a : Measured) : Type 0 w
   pub short : length y ≤ exact_index
 
 -- the records of the apexes es stand at the front of the list d, and there are n of them
-pub record RecordsPut (w : Written) (place : RowPlace) (bounds : FrameBounds) (mobility : List Float) (axis : List ℕ) (y z : List Float) (first : ℕ) (d out : List ℕ) (n : ℕ) (es : List ℕ) : Type 0 where
+pub record RecordsPut {T : Type 0} (w : Written T) (place : RowPlace) (bounds : FrameBounds) (mobility : List Float) (axis : List ℕ) (y z : List Float) (first : ℕ) (d out : List T) (n : ℕ) (es : List ℕ) : Type 0 where
   pub count : n ≡ length es
   pub front : out ≡ w.put (row_words place bounds mobility axis y z first es) ++ drop (n * stride w) d

@@ -9,22 +9,23 @@ ghost use Rattle.rowsearch.specs.Qualifying.{kept};
 ghost use Rattle.rowsearch.specs.Found.{Searchable, Standing};
 ghost use Rattle.rowsearch.specs.Room.{Sizes};
 ghost use Rattle.row.specs.Row.{on_axes, subscan, scan_at, mobility_at, group_flag, group_word, mobility_flag, peak_of, row_words};
-ghost use Rattle.row.specs.Written.{as_words};
 ghost use Rattle.row.specs.Steps.{Inside, Writable, Numbers, RecordsPut};
 
+use super::column::Column;
+use super::written::{AsWords, Written};
 use params::{FrameBounds, ImDetectParams, RowPlace};
 use record::{ImPeak1D, PeakId};
 use rowsearch::inner::Measured;
 use rowsearch::scratch::Scratch;
 
-fn scan_at(axis: &[u32], k: usize) -> u32
-    requires { 0 < length axis.now }
-    ensures { result ≡ scan_at axis.now k }
+fn scan_at<S: Column<u32>>(axis: S, k: usize) -> u32
+    requires { 0 < length (S.items axis) }
+    ensures { result ≡ scan_at (S.items axis) k }
 {
-    let last = axis.len() - 1;
-    if k < last { axis[k] } else { axis[last] }
+    axis.item(k.min(axis.count() - 1))
 }
 
+// The same two lines as rtapex's `subframe`: each is the definition of its own level.
 fn subscan_of(y: &[f32], i: usize) -> f32
     requires { (0 < i) × (i + 1 < length y.now) }
     ensures { result ≡ subscan y.now i }
@@ -33,16 +34,20 @@ fn subscan_of(y: &[f32], i: usize) -> f32
     numeric::clamp(offset, -0.5, 0.5)
 }
 
-fn mobility_at(mobility: &[f32], i: usize) -> f32
-    ensures { result ≡ mobility_at mobility.now i }
+fn mobility_at<M: Column<f32>>(mobility: M, i: usize) -> f32
+    ensures { result ≡ mobility_at (M.items mobility) i }
 {
-    if i < mobility.len() { mobility[i] } else { 0.0 }
+    if i < mobility.count() {
+        mobility.item(i)
+    } else {
+        0.0
+    }
 }
 
-fn mobility_flag(mobility: &[f32]) -> u32
-    ensures { result ≡ mobility_flag mobility.now }
+fn mobility_flag<M: Column<f32>>(mobility: M) -> u32
+    ensures { result ≡ mobility_flag (M.items mobility) }
 {
-    if mobility.is_empty() {
+    if mobility.count() == 0 {
         0
     } else {
         ImPeak1D::HAS_MOBILITY
@@ -71,9 +76,9 @@ pub struct OnAxes {
     pub flag: u32,
 }
 
-fn on_axes(mobility: &[f32], axis: &[u32], a: Measured) -> OnAxes
-    requires { 0 < length axis.now }
-    ensures { result ≡ on_axes mobility.now axis.now a }
+fn on_axes<M: Column<f32>, S: Column<u32>>(mobility: M, axis: S, a: Measured) -> OnAxes
+    requires { 0 < length (S.items axis) }
+    ensures { result ≡ on_axes (M.items mobility) (S.items axis) a }
 {
     OnAxes {
         scan: scan_at(axis, a.index),
@@ -130,100 +135,84 @@ pub fn peak_on(
     }
 }
 
-// The peak of an apex.
-pub fn peak_of(
-    y: &[f32],
-    z: &[f32],
-    place: RowPlace,
-    bounds: FrameBounds,
-    mobility: &[f32],
-    axis: &[u32],
-    a: Measured,
-    id: PeakId,
-) -> ImPeak1D
-    requires { Inside y.now z.now axis.now a }
-    ensures { result ≡ peak_of place bounds mobility.now axis.now y.now z.now a.index id }
-{
-    let on = on_axes(mobility, axis, a);
-    peak_on(y, z, place, bounds, on, a, id)
+// A row whose peaks are listed: the samples that are searched, the readings, where they lie, a mobility for each sample or none, and a
+// scan for each.
+#[derive(Clone, Copy)]
+pub struct Row<'a, M, S> {
+    pub y: &'a [f32],
+    pub z: &'a [f32],
+    pub place: RowPlace,
+    pub bounds: FrameBounds,
+    pub mobility: M,
+    pub axis: S,
 }
 
-// Writes the records of the n apexes that stand in `found` to the front of `out`, the oldest first.
-pub fn put_peaks(
-    found: &[u32],
-    n: usize,
-    y: &[f32],
-    z: &[f32],
-    place: RowPlace,
-    bounds: FrameBounds,
-    mobility: &[f32],
-    axis: &[u32],
-    first: PeakId,
-    out: &mut [u32],
-)
-    requires { Writable y.now z.now axis.now first (length out.old) × (n ≤ most_peaks (length y.now)) × ((ks : List ℕ) × Standing y.now z.now found.now n ks) }
-    ensures { (ks : List ℕ) → Standing y.now z.now found.now n ks → RecordsPut as_words place bounds mobility.now axis.now y.now z.now first out.old out.new n ks }
-{
-    for j in 0..n {
-        let a = rowsearch::inner::measured_at(found, j);
-        let peak = peak_of(y, z, place, bounds, mobility, axis, a, first + j as PeakId);
-        record::inner::put_peak(out, j, peak);
+impl<'a, M: Column<f32>, S: Column<u32>> Row<'a, M, S> {
+    // The peak of an apex.
+    pub fn peak_of(&self, a: Measured, id: PeakId) -> ImPeak1D
+        requires { Inside self.now.y.now self.now.z.now (S.items self.now.axis) a }
+        ensures { result ≡ peak_of self.now.place self.now.bounds (M.items self.now.mobility) (S.items self.now.axis) self.now.y.now self.now.z.now a.index id }
+    {
+        let on = on_axes(self.mobility, self.axis, a);
+        peak_on(self.y, self.z, self.place, self.bounds, on, a, id)
+    }
+
+    // Writes the records of the n apexes that stand in `found` to the front of `out`, the oldest first. An apex is some words of `found`,
+    // which is scratch and longer than they are, and is read at its place.
+    pub fn put_peaks<W: Written>(
+        &self,
+        found: &[u32],
+        n: usize,
+        first: PeakId,
+        out: &mut [W::Place],
+    )
+        requires room { (room : ℕ) × (room * W.form.unit ≤ length out.old) × Writable self.now.y.now self.now.z.now (S.items self.now.axis) first room }
+        requires apexes { (n ≤ most_peaks (length self.now.y.now)) × ((ks : List ℕ) × Standing self.now.y.now self.now.z.now found.now n ks) }
+        ensures { (ks : List ℕ) → Standing self.now.y.now self.now.z.now found.now n ks → RecordsPut W.form self.now.place self.now.bounds (M.items self.now.mobility) (S.items self.now.axis) self.now.y.now self.now.z.now first out.old out.new n ks }
+    {
+        for j in 0..n {
+            let a = rowsearch::inner::measured_at(found, j);
+            W::put_record(out, j, self.peak_of(a, first + j as PeakId));
+        }
     }
 }
+
+// A row whose axes stand in memory as they are.
+pub type WordRow<'a> = Row<'a, &'a [f32], &'a [u32]>;
 
 // Writes the records of the listed peaks of a row that reaches the floor to the front of `out` and answers how many there are. The
 // lists for turns, bases and what is found are scratch.
 pub fn list_peaks(
-    y: &[f32],
-    z: &[f32],
-    place: RowPlace,
-    bounds: FrameBounds,
-    mobility: &[f32],
+    row: &WordRow<'_>,
     p: ImDetectParams,
-    axis: &[u32],
     first: PeakId,
     scratch: &mut Scratch<'_>,
     out: &mut [u32],
 ) -> usize
-    requires { Writable y.now z.now axis.now first (length out.old) × Searchable p y.now z.now scratch.old.samples }
-    ensures count { result ≡ length (kept p y.now z.now) }
-    ensures front { out.new ≡ row_words place bounds mobility.now axis.now y.now z.now first (kept p y.now z.now) ++ drop (result * size) out.old }
+    requires { Writable row.now.y.now row.now.z.now row.now.axis.now first (length out.old) × Searchable p row.now.y.now row.now.z.now scratch.old.samples }
+    ensures count { result ≡ length (kept p row.now.y.now row.now.z.now) }
+    ensures front { out.new ≡ row_words row.now.place row.now.bounds row.now.mobility.now row.now.axis.now row.now.y.now row.now.z.now first (kept p row.now.y.now row.now.z.now) ++ drop (result * size) out.old }
     ensures samples { scratch.new.samples ≡ scratch.old.samples }
     ensures lists { SameLists scratch.old scratch.new }
 {
-    let n = rowsearch::inner::find_apexes(y, z, p, scratch);
-    put_peaks(
-        scratch.found,
-        n,
-        y,
-        z,
-        place,
-        bounds,
-        mobility,
-        axis,
-        first,
-        out,
-    );
+    let n = rowsearch::inner::find_apexes(row.y, row.z, p, scratch);
+    row.put_peaks::<AsWords>(scratch.found, n, first, out);
     n
 }
 
-// The same with scratch of its own, for a row of at most N samples. It is no part of its callers, so that each has the stack of one size alone.
+// The same with scratch of its own, for a row of at most N samples. It is no part of its callers, so that each has the stack of one size
+// alone. There is no heap, so the lists stand in the frame of this function.
 #[inline(never)]
 fn list_in<const N: usize, const B: usize, const F: usize>(
-    y: &[f32],
-    z: &[f32],
-    place: RowPlace,
-    bounds: FrameBounds,
-    mobility: &[f32],
+    row: &WordRow<'_>,
     p: ImDetectParams,
-    axis: &[u32],
     first: PeakId,
     out: &mut [u32],
 ) -> usize
-    requires row { Writable y.now z.now axis.now first (length out.old) × Numbers p y.now z.now × (length y.now ≤ N) }
+    requires row { Writable row.now.y.now row.now.z.now row.now.axis.now first (length out.old) × Numbers p row.now.y.now row.now.z.now × (length row.now.y.now ≤ N) }
     requires sizes { Sizes N B F }
-    ensures count { result ≡ length (kept p y.now z.now) }
-    ensures front { out.new ≡ row_words place bounds mobility.now axis.now y.now z.now first (kept p y.now z.now) ++ drop (result * size) out.old }
+    ensures count { result ≡ length (kept p row.now.y.now row.now.z.now) }
+    ensures front { out.new ≡ row_words row.now.place row.now.bounds row.now.mobility.now row.now.axis.now row.now.y.now row.now.z.now first (kept p row.now.y.now row.now.z.now) ++ drop (result * size) out.old }
 {
     let mut turns = [0u32; N];
     let mut bases = [0u32; B];
@@ -234,41 +223,25 @@ fn list_in<const N: usize, const B: usize, const F: usize>(
         bases: &mut bases,
         found: &mut found,
     };
-    list_peaks(
-        y,
-        z,
-        place,
-        bounds,
-        mobility,
-        p,
-        axis,
-        first,
-        &mut scratch,
-        out,
-    )
+    list_peaks(row, p, first, &mut scratch, out)
 }
 
 // The same for any row of at most 16,384 samples: one that does not reach the floor has no peaks.
 pub fn find_im_peaks_row(
-    y: &[f32],
-    z: &[f32],
-    place: RowPlace,
-    bounds: FrameBounds,
-    mobility: &[f32],
+    row: &WordRow<'_>,
     p: ImDetectParams,
-    axis: &[u32],
     first: PeakId,
     out: &mut [u32],
 ) -> usize
-    requires { Writable y.now z.now axis.now first (length out.old) × (all_in_range any_number y.now ≡ true) × (length y.now ≤ max_samples) }
-    ensures count { result ≡ length (kept p y.now z.now) }
-    ensures front { out.new ≡ row_words place bounds mobility.now axis.now y.now z.now first (kept p y.now z.now) ++ drop (result * size) out.old }
+    requires { Writable row.now.y.now row.now.z.now row.now.axis.now first (length out.old) × (all_in_range any_number row.now.y.now ≡ true) × (length row.now.y.now ≤ max_samples) }
+    ensures count { result ≡ length (kept p row.now.y.now row.now.z.now) }
+    ensures front { out.new ≡ row_words row.now.place row.now.bounds row.now.mobility.now row.now.axis.now row.now.y.now row.now.z.now first (kept p row.now.y.now row.now.z.now) ++ drop (result * size) out.old }
 {
-    if !rowsearch::inner::reaches_floor(z, p.min_prom) {
+    if !rowsearch::inner::reaches_floor(row.z, p.min_prom) {
         return 0;
     }
-    if y.len() <= 1024 {
-        return list_in::<1024, 800, 4096>(y, z, place, bounds, mobility, p, axis, first, out);
+    if row.y.len() <= 1024 {
+        return list_in::<1024, 800, 4096>(row, p, first, out);
     }
-    list_in::<16384, 8480, 65536>(y, z, place, bounds, mobility, p, axis, first, out)
+    list_in::<16384, 8480, 65536>(row, p, first, out)
 }

@@ -1,7 +1,9 @@
 // The mobility peaks of one TOF row over its scans.
 #![tactic(auto)]
 
+pub mod column;
 pub mod inner;
+pub mod written;
 
 ghost use Rattle.std.specs.Prelude.{◌≡◌, length};
 ghost use Rattle.refusal.specs.Answers.{answer_by};
@@ -55,7 +57,7 @@ fn sound_axis(place: RowPlace, axis: &[u32]) -> bool
     params::inner::all_up_to(limits::MAX_SCAN, axis) & place.is_sound()
 }
 
-// The number that a row is answered with, 0 for none; `room` is the length of the lent list.
+// Refuses with the lowest number that applies; `room` is the length of the lent list.
 #[tactic(auto, unfolding(crate::specs::RowNumber::row_number, refusal::specs::Refusal::first_of))]
 fn check(
     y: &[f32],
@@ -94,7 +96,7 @@ fn check(
     Ok(())
 }
 
-// Writes the records of a row's peaks to the front of `out`, or answers with a number and leaves `out` as it is.
+// Writes the records of a row's peaks to the front of `out`, or refuses and leaves `out` as it is.
 pub fn find_im_peaks_row(
     y_smoothed: &[f32],
     y_raw: &[f32],
@@ -120,7 +122,13 @@ pub fn find_im_peaks_row(
         first,
         out.len(),
     )?;
-    Ok(inner::find_im_peaks_row(
-        y_smoothed, y_raw, place, bounds, mobility, p, scan_axis, first, out,
-    ))
+    let row = inner::Row {
+        y: y_smoothed,
+        z: y_raw,
+        place,
+        bounds,
+        mobility,
+        axis: scan_axis,
+    };
+    Ok(inner::find_im_peaks_row(&row, p, first, out))
 }

@@ -8,7 +8,7 @@ use native.Mathlib.Omega.{arith}
 use borrow.Author.Tests.{not-false, ltb-true, ltb-false, leb-true, le-leb, eqb-true, ne_eqb}
 use lib.Dec.{leb, ltb, eqb, lit<, lit≤}
 use lib.ListN.{length, drop}
-use lib.Ieee.{Float, le, of_bits, to_bits}
+use lib.Ieee.{Float, nan, le, of_bits, to_bits}
 use Rattle.limits.specs.Limits.{max_reading, max_height, max_area, max_mobility, max_place, max_tof_bound, max_scan, max_width, last_sample, last_row, max_samples}
 use Rattle.numeric.specs.Arith.{𝟎, index_f, at}
 use Rattle.numeric.specs.Numeric.{max_f, min_f, quad_f, in_range, all_in_range}
@@ -33,6 +33,7 @@ use Rattle.rowsearch.proofs.QualifyingLaws.{qualifying-listed}
 use Rattle.row.specs.Row.{scan_at, subscan, mobility_at, mobility_flag, group_flag, peak_of, row_words}
 use Rattle.row.specs.RowNumber.{same_lengths, sound_readings, sound_values, sound_axis, row_checks, row_number}
 use Rattle.row.proofs.RowNumberLaws.{none-for}
+use Rattle.std.proofs.lemmas.List.{get_or_default}
 use Rattle.row.proofs.Laws.{mobility-in, mobility-out, mobility-flag-le, group-flag-le}
 use Rattle.rounding.specs.Rounding.{floor_f, ceil_f}
 use Rattle.rowlaws.specs.RowRecords.{nth}
@@ -122,7 +123,7 @@ module _ (y z : List Float) (r : RowPlace) (f : FrameBounds) (mobility : List Fl
   modest-at t h = go (ltb i (length t)) refl
     where
       go : (b : Bool) → ltb i (length t) ≡ b → modest (mobility_at t i) ≡ true
-      go true e = let l = ltb-true i (length t) e in ap modest (sym (mobility-in t i l)) ∙ range_at max_mobility t i h l
+      go true e = let l = ltb-true i (length t) e in ap modest (sym (get_or_default t i nan 𝟎 l ∙ mobility-in t i l)) ∙ range_at max_mobility t i h l
       go false e = ap modest (sym (mobility-out t i (ltb-false i (length t) e))) ∙ zero-modest
 
   or-true : (b : Bool) → (b || true) ≡ true

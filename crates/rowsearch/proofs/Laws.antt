@@ -365,9 +365,6 @@ next y z found (i ∷ older) j h f = go (ltb j (length older)) refl (λ (g : j <
 pub none_yet : (ks : List ℕ) → oldest 0 ks ≡ []
 none_yet ks = drop_of_length-le ks {i = length ks - 0} (omega arith)
 
-pub all-now : (ks : List ℕ) (j : ℕ) → j ≡ length ks → oldest j ks ≡ ks
-all-now ks j e = let z : length ks - j ≡ 0 = omega arith in rw z
-
 -- ---- a list whose front stays while the rest is lent
 abbrev pub rest_of : ℕ → List ℕ → List ℕ
 rest_of m l = take (length l - m) (drop m l)

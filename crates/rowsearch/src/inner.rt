@@ -12,6 +12,10 @@ ghost use Rattle.rowsearch.specs.Found.{found_size, word, measured_words, measur
 
 use super::scratch::Scratch;
 use params::ImDetectParams;
+use spans::inner::Apex;
+
+// The words of an apex that is found.
+const FOUND: usize = 8;
 
 // What is measured of an apex.
 #[derive(Clone, Copy)]
@@ -26,7 +30,8 @@ pub struct Measured {
     pub area: f32,
 }
 
-// How many apexes are kept so far, the newest of them, and how many spans the memo has.
+// How many apexes are kept so far, the newest of them, and how many spans the memo has. There is a newest one where the count is not 0;
+// an `Option` of it would say that twice.
 #[derive(Clone, Copy)]
 pub struct Keeping {
     pub count: usize,
@@ -61,14 +66,16 @@ fn put_words(out: &mut [u32], m: Measured)
     ensures words { out.new ≡ measured_words m ++ drop found_size out.old }
     ensures fit { Fits m }
 {
-    out[0] = m.index as u32;
-    out[1] = m.left;
-    out[2] = m.right;
-    out[3] = m.width;
-    out[4] = word_of(m.prominence);
-    out[5] = word_of(m.left_x);
-    out[6] = word_of(m.right_x);
-    out[7] = word_of(m.area);
+    out[..FOUND].copy_from_slice(&[
+        m.index as u32,
+        m.left,
+        m.right,
+        m.width,
+        word_of(m.prominence),
+        word_of(m.left_x),
+        word_of(m.right_x),
+        word_of(m.area),
+    ]);
 }
 
 // Writes an apex to place j of a list.
@@ -77,7 +84,7 @@ fn put_measured(out: &mut [u32], j: usize, m: Measured)
     ensures words { out.new ≡ with_measured out.old j m }
     ensures fit { Fits m }
 {
-    let at = j * 8;
+    let at = j * FOUND;
     put_words(&mut out[at..], m);
 }
 
@@ -92,7 +99,7 @@ pub fn measured_at(found: &[u32], j: usize) -> Measured
     requires { j * found_size + found_size ≤ length found.now }
     ensures { result ≡ measured_at found.now j }
 {
-    let at = j * 8;
+    let at = j * FOUND;
     Measured {
         index: index_of(found[at]),
         left: found[at + 1],
@@ -112,10 +119,7 @@ fn is_near(count: usize, last: usize, i: usize, distance: u32) -> bool
     requires { 0 < count → last < i }
     ensures { result ≡ (ltb 0 count && ltb (i - last) distance) }
 {
-    if count == 0 {
-        return false;
-    }
-    i - last < distance as usize
+    count > 0 && i - last < distance as usize
 }
 
 // The place of an apex that is kept: behind the others, or that of the newest one if it is near.
@@ -153,15 +157,13 @@ fn keep_next(
             return s;
         }
     }
-    let seen = spans::inner::look_at(
+    let apex = Apex {
         y,
         z,
-        base + 0.5 * prominence,
+        h: base + 0.5 * prominence,
         i,
-        p.min_width_scans,
-        memo,
-        s.depth,
-    );
+    };
+    let seen = apex.look_at(p.min_width_scans, memo, s.depth);
     let depth = seen.depth;
     let Some(a) = seen.span else {
         return Keeping { count, last, depth };
@@ -188,8 +190,9 @@ fn keep_next(
     }
 }
 
-// The apexes of a row that are kept, of the m candidates whose baselines are known. Answers how many there are; what is measured
-// of them stands at the front of `found`. What `bases` holds behind the baselines is the memo.
+// The apexes of a row that are kept, of the m candidates whose baselines are known. Answers how many there are; what is measured of them
+// stands at the front of `found`. What `bases` holds behind the baselines is the memo. The three lists are no `Scratch`: one is read while
+// the two others are written, and the search for the candidates has used one of them as its stack.
 fn keep_all(
     y: &[f32],
     z: &[f32],
@@ -207,6 +210,7 @@ fn keep_all(
         last: 0,
         depth: 0,
     };
+    // By numbers: the apex k stands at an odd place of `turns`, its baseline at k of `bases`, whose rest is written meanwhile.
     for k in 0..m {
         let i = index_of(turns[2 * k + 1]);
         let base = numeric::float_of(bases[k]);

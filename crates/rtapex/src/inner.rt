@@ -25,8 +25,24 @@ pub struct Seconds {
     pub width: f32,
 }
 
+// The times at two places of a trace of n frames, each held to the trace, and the seconds between.
+#[tactic(auto, unfolding(crate::specs::InTime::seconds_of))]
+pub fn seconds_of(t: &[f32], n: usize, left_x: f32, right_x: f32) -> Seconds
+    requires { (0 < n) × (n ≤ exact_index) × (length t.now ≤ exact_index) }
+    ensures { result ≡ seconds_of t.now n left_x right_x }
+{
+    let last = numeric::inner::of_index(n - 1);
+    let left = rttime::inner::t_at_index_frac(t, numeric::max(left_x, 0.0));
+    let right = rttime::inner::t_at_index_frac(t, numeric::min(right_x, last));
+    Seconds {
+        left,
+        right,
+        width: numeric::max(right - left, 0.0),
+    }
+}
+
 impl<'a> Trace<'a> {
-    // How far the apex at i lies from its frame.
+    // How far the apex at i lies from its frame. The same two lines as row's `subscan_of`: each is the definition of its own level.
     #[tactic(auto, unfolding(crate::specs::InTime::subframe), using(crate::proofs::Laws::minus_half))]
     pub fn subframe(self, i: usize) -> f32
         requires { (0 < i) × (i + 1 < length self.smoothed.now) }
@@ -55,19 +71,11 @@ impl<'a> Trace<'a> {
     }
 
     // The times at two places, each held to the trace, and the seconds between.
-    #[tactic(auto, unfolding(crate::specs::InTime::seconds_of))]
     pub fn seconds_between(self, left_x: f32, right_x: f32) -> Seconds
         requires { (0 < length self.smoothed.now) × (length self.smoothed.now ≤ exact_index) × (length self.times.now ≤ exact_index) }
         ensures { result ≡ seconds_of self.entry.times.now (length self.entry.smoothed.now) left_x right_x }
     {
-        let last = numeric::inner::of_index(self.smoothed.len() - 1);
-        let left = rttime::inner::t_at_index_frac(self.times, numeric::max(left_x, 0.0));
-        let right = rttime::inner::t_at_index_frac(self.times, numeric::min(right_x, last));
-        Seconds {
-            left,
-            right,
-            width: numeric::max(right - left, 0.0),
-        }
+        seconds_of(self.times, self.smoothed.len(), left_x, right_x)
     }
 
     // The peak of an apex, by what is measured of it.

@@ -99,7 +99,7 @@ impl Default for RtExpandParams {
 }
 
 impl RtExpandParams {
-    // The defaults of old, with a fixed floor.
+    // The defaults with a fixed floor, by the Rust's name.
     pub fn legacy_defaults() -> Self
         ensures { result ≡ legacy_defaults }
     {

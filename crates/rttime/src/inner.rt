@@ -3,7 +3,7 @@ ghost use Rattle.std.specs.Prelude.{◌≡◌, ◌≤◌, ◌<◌, min, length};
 ghost use Rattle.limits.specs.Limits.{exact_index};
 ghost use Rattle.rttime.specs.Time.{time_between, time_at, never_falls};
 
-// The smaller of two indices.
+// The smaller of two indices: std's, under a name that has a promise and wrong versions of its own.
 pub fn smaller(a: usize, b: usize) -> usize
     ensures { result ≡ min a b }
 {

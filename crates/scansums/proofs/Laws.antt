@@ -7,7 +7,7 @@ use native.Mathlib.Omega.{arith}
 use borrow.Author.Tests.{le-leb, lt-leb, leb-true, ltb-true, ltb-false, eqb-true, eqb-false}
 use lib.Dec.{leb, ltb, eqb}
 use lib.ListN.{length, get_or, drop, set, length-set, take-append-drop, length-map}
-use lib.Seq.{get_or-set_same, get_or-set_other, drop-set-lt, drop-drop}
+use lib.Seq.{get_or-set_same, get_or-set_other, drop-set-lt}
 use lib.Ieee.{Float, nan}
 use Rattle.refusal.proofs.Bools.{clash, both, and-false}
 use Rattle.numeric.specs.Arith.{◌⊕◌, 𝟎, at}
@@ -39,23 +39,6 @@ scan-in w s t =
     let lo = leb-true w.scan_lo s p.0 in
     let hi = leb-true s w.scan_hi p.1 in
     (lo, omega arith)
-
--- ---- zeros
-
-pub clear_none : (old : List Float) → Stepped (λ _ _. 𝟎) 0 old old
-clear_none old = record { size = refl; front = λ k h. absurd (omega arith); rest = refl }
-
-pub clear-more : (old new : List Float) (n : ℕ) → n < length new → Stepped (λ _ _. 𝟎) n old new → Stepped (λ _ _. 𝟎) (n + 1) old (set new n 𝟎)
-clear-more old new n h s =
-    record {
-      size = length-set new n 𝟎 ∙ s.size;
-      front = λ k l. go k l (eqb k n) refl;
-      rest = drop-set-lt (n + 1) new n 𝟎 (omega arith) ∙ sym (drop-drop 1 n new) ∙ ap (drop 1) s.rest ∙ drop-drop 1 n old;
-    }
-  where
-    go : (k : ℕ) → k < n + 1 → (t : Bool) → eqb k n ≡ t → at (set new n 𝟎) k ≡ 𝟎
-    go k l true t = let e : k ≡ n = eqb-true k n t in rw e (get_or-set_same new n 𝟎 nan h)
-    go k l false t = let o = eqb-false k n t in get_or-set_other new n k 𝟎 nan o ∙ s.front k (omega arith)
 
 -- ---- points
 

@@ -11,9 +11,7 @@ fn clear(n: usize, out: &mut [f32])
     requires { n ≤ length out.old }
     ensures { Stepped (λ _ _. 𝟎) n out.old out.new }
 {
-    for k in 0..n {
-        out[k] = 0.0;
-    }
+    out[..n].fill(0.0);
 }
 
 // Adds the readings of a span to the values of their scans.
@@ -21,24 +19,24 @@ fn deal_points(ix: &CheckedIndex, p: Span, w: Window, out: &mut [f32])
     requires { (p.from ≤ p.to) × (p.to ≤ length ix.now.scans) × (scans_of w ≤ length out.old) }
     ensures { Stepped (λ k. add_points ix.now (at_scan w (w.scan_lo + k)) (p.to - p.from) p.from) (scans_of w) out.old out.new }
 {
-    for j in p.from..p.to {
-        let scan = ix.scans[j];
+    let readings = ix.readings;
+    for (i, &scan) in ix.scans[p.from..p.to].iter().enumerate() {
         if w.has_scan(scan) {
             let k = (scan - w.scan_lo) as usize;
-            out[k] += ix.readings[j];
+            out[k] += readings[p.from + i];
         }
     }
 }
 
-// A sum for each scan of the window, over n frames.
+// A sum for each scan of the window, over n frames, by their places in the run.
 pub fn put_scan_sums(ix: &CheckedIndex, from: usize, n: usize, w: Window, out: &mut [f32])
     requires { (from + n < length ix.now.starts) × (w.scan_lo ≤ w.scan_hi) × (scans_of w ≤ length out.old) }
     ensures { out.new ≡ scan_sums ix.now w from n ++ drop (scans_of w) out.old }
 {
     clear((w.scan_hi - w.scan_lo) as usize + 1, out);
     prove!(from < ix.starts.len());
-    for k in 0..n {
-        let p = framesums::inner::span_of(ix, from + k, w);
+    for f in from..from + n {
+        let p = framesums::inner::span_of(ix, f, w);
         deal_points(ix, p, w, out);
     }
 }

@@ -10,8 +10,10 @@ use borrow.Author.Tests.{lt-ltb, le-ltb, le-leb, lt-leb, ltb-true, ltb-false, le
 use borrow.Rule.Slice.PartMut.{put_mid, Post-is, mid_len}
 use lib.Dec.{ltb, eqb}
 use lib.ListN.{length, drop, take, set, length-append, length-map, take-append-drop, drop_of_length-le, get_or-append}
-use lib.Seq.{drop-cons, take-suc, take-length, set_at, get_or_at, take_at, drop_at, drop-drop, drop-length, length-take-le, get_or-take, ext_get_or}
+use lib.Seq.{drop-cons, take-suc, take-length, set_at, get_or_at, take_at, drop_at, drop-drop, drop-length, length-take-le, ext_get_or}
 use lib.Ieee.{Float, nan, lt}
+use Rattle.std.proofs.Common.{length-drop}
+use Rattle.std.specs.Prelude.{replicate}
 use Rattle.refusal.proofs.Bools.{all4}
 use Rattle.limits.specs.Limits.{max_weights}
 use Rattle.numeric.specs.Arith.{◌⊕◌, ◌⊗◌, ◌⊘◌, 𝟎, at}
@@ -48,12 +50,6 @@ at-tab (suc n) f i h = go (ltb i n) refl (λ p. at-tab n f i p)
 pub tab-list : (l : List Float) → tabulate (length l) (at l) ≡ l
 tab-list l = ext_get_or nan _ _ (length-tab (length l) (at l)) (λ i h. at-tab (length l) (at l) i (rw length-tab at h))
 
-pub tab-take : (l : List Float) (n : ℕ) → n ≤ length l → tabulate n (at l) ≡ take n l
-tab-take l n p =
-    ext_get_or nan _ _ (length-tab n (at l) ∙ sym (length-take-le n l p)) (λ i h.
-    let q : i < n = rw length-tab at h in
-    at-tab n (at l) i q ∙ sym (get_or-take n l i nan q))
-
 pub map-tab : (g : Float → Float) (n : ℕ) (f : ℕ → Float) → map g (tabulate n f) ≡ tabulate n (λ i. g (f i))
 unfolding tabulate
 map-tab g zero f = refl
@@ -70,6 +66,31 @@ tab-add a (suc k) f =
     let e : a + suc k ≡ suc (a + k) = omega arith in
     let z : a + k ≡ k + a = omega arith in
     rw (e, ← append_assoc, ← tab-add a k f, z)
+
+-- the same reading at every place
+replicate_snoc : (n : ℕ) (v : Float) → replicate n v ++ (v ∷ []) ≡ v ∷ replicate n v
+replicate_snoc zero v = refl
+replicate_snoc (suc n) v = ap (λ l. v ∷ l) (replicate_snoc n v)
+
+pub tab_replicate : (n : ℕ) (v : Float) → replicate n v ≡ tabulate n (λ i. v)
+unfolding tabulate
+tab_replicate zero v = refl
+tab_replicate (suc n) v = sym (ap (λ l. l ++ (v ∷ [])) (sym (tab_replicate n v)) ∙ replicate_snoc n v)
+
+-- what a list's part begins with
+pub front : (l : List Float) (k : ℕ) (x : Float) (xs : List Float) → drop k l ≡ x ∷ xs → (k < length l) × (x ≡ at l k) × (xs ≡ drop (k + 1) l)
+front l k x xs e = go (ltb k (length l)) refl
+  where
+    go : (b : Bool) → ltb k (length l) ≡ b → (k < length l) × (x ≡ at l k) × (xs ≡ drop (k + 1) l)
+    go true h =
+        let p = ltb-true k (length l) h in
+        let d : x ∷ xs ≡ at l k ∷ drop (suc k) l = sym e ∙ drop-cons l k nan p in
+        (p, ap (λ z. at z 0) d, rw add-one (ap (drop 1) d))
+    go false h = let n : 0 ≡ length (x ∷ xs) = ap length (sym (drop_of_length-le l (ltb-false k (length l) h)) ∙ e) in absurd (omega arith)
+
+-- the part of a list from k on
+pub rest_all : (l : List Float) (k : ℕ) → take (length l - k) (drop k l) ≡ drop k l
+rest_all l k = let e : length (drop k l) ≡ length l - k = rw length-drop refl in rw (← e, take-length) refl
 
 -- ---- a buffer that is filled from a on
 module _ (f : ℕ → Float) (a : ℕ) (d : List Float) where

@@ -7,6 +7,7 @@ ghost use Rattle.smoothing.specs.Steps.{filled, added};
 
 // ---- one pass over a list
 
+#[tactic(auto, unfolding(crate::specs::Smoothing::sum_from))]
 fn sum_of(weights: &[f32]) -> f32
     ensures { result ≡ sum_from 𝟎 weights.now }
 {
@@ -25,12 +26,11 @@ fn divide(dst: &mut [f32], by: f32)
     }
 }
 
+#[tactic(auto, using(crate::proofs::Laws::tab_replicate))]
 fn clear(dst: &mut [f32])
     ensures { dst.new ≡ tabulate (length dst.old) (λ i. 𝟎) }
 {
-    for x in dst.iter_mut() {
-        *x = 0.0;
-    }
+    dst.fill(0.0);
 }
 
 // ---- where every weight meets a reading
@@ -40,8 +40,9 @@ fn add_one(src: &[f32], u: &[f32], k: usize, dst: &mut [f32])
     ensures { dst.new ≡ added src.now (at u.now k) k dst.old }
 {
     let w = u[k];
-    for i in 0..dst.len() {
-        dst[i] = dst[i] + w * src[i + k];
+    // Not `zip`: of a list that a `zip` writes through, the proof knows the length alone.
+    for (i, sum) in dst.iter_mut().enumerate() {
+        *sum += w * src[i + k];
     }
 }
 
@@ -61,8 +62,9 @@ fn add_four(src: &[f32], u: &[f32], k: usize, dst: &mut [f32])
     let w1 = u[k1];
     let w2 = u[k2];
     let w3 = u[k3];
-    for i in 0..dst.len() {
-        dst[i] = dst[i] + w0 * src[i + k] + w1 * src[i + k1] + w2 * src[i + k2] + w3 * src[i + k3];
+    // Not `zip`, as in `add_one`.
+    for (i, sum) in dst.iter_mut().enumerate() {
+        *sum = *sum + w0 * src[i + k] + w1 * src[i + k1] + w2 * src[i + k2] + w3 * src[i + k3];
     }
 }
 
@@ -72,6 +74,7 @@ fn add_all(src: &[f32], u: &[f32], dst: &mut [f32])
     ensures { dst.new ≡ tabulate (length dst.old) (λ j. weighted u.now src.now (j + radius u.now) (length u.now)) }
 {
     clear(dst);
+    // Places: that of a weight is also that of the first reading that it meets.
     let fours = u.len() / 4;
     for k in 0..fours {
         add_four(src, u, 4 * k, dst);
@@ -107,24 +110,17 @@ fn middle(src: &[f32], u: &[f32], dst: &mut [f32])
 
 // ---- at the ends
 
-// The weights from the first to the last that meet a reading.
+// The weights that meet a reading: from the first that does to the end of the weights or of the row.
 fn end_at(src: &[f32], u: &[f32], i: usize) -> f32
     requires { i < length src.now }
     ensures { result ≡ smoothed_at u.now src.now i }
 {
     let r = u.len() / 2;
-    let left = if i < r { r - i } else { 0 };
-    let after = src.len() - i;
-    let right = if u.len() - r < after {
-        u.len()
-    } else {
-        r + after
-    };
+    let left = r.saturating_sub(i);
     let mut sum = 0.0f32;
     let mut norm = 0.0f32;
-    for k in left..right {
-        let w = u[k];
-        sum += w * src[i + k - r];
+    for (&w, &reading) in u[left..].iter().zip(&src[i + left - r..]) {
+        sum += w * reading;
         norm += w;
     }
     if norm > 0.0 { sum / norm } else { 0.0 }
@@ -135,8 +131,9 @@ fn ends(src: &[f32], u: &[f32], from: usize, to: usize, dst: &mut [f32])
     requires { (from ≤ to) × (to ≤ length src.now) × (length src.now ≤ length dst.old) }
     ensures { dst.new ≡ filled (smoothed_at u.now src.now) from to dst.old }
 {
-    for i in from..to {
-        dst[i] = end_at(src, u, i);
+    let part = &mut dst[from..to];
+    for (j, sample) in part.iter_mut().enumerate() {
+        *sample = end_at(src, u, from + j);
     }
 }
 
@@ -159,6 +156,7 @@ pub fn smooth_by(src: &[f32], u: &[f32], dst: &mut [f32])
 }
 
 // The weights divided by their sum.
+#[tactic(auto, unfolding(crate::specs::Smoothing::normalised))]
 pub fn normalise(weights: &[f32], u: &mut [f32])
     requires { length weights.now ≡ length u.old }
     ensures { u.new ≡ normalised weights.now }
@@ -180,16 +178,14 @@ pub fn smooth(src: &[f32], weights: &[f32], dst: &mut [f32])
 
 // ---- what weights must be
 
+#[tactic(auto, unfolding(crate::specs::Smoothing::sound_weights))]
 pub fn sound_weights(weights: &[f32]) -> bool
     ensures { result ≡ sound_weights weights.now }
 {
     let m = weights.len();
-    if m % 2 == 1 {
-        if m <= limits::MAX_WEIGHTS {
-            if numeric::inner::all_in_range(weights, limits::MAX_WEIGHT) {
-                return numeric::word_of(weights[m / 2]) == limits::MAX_WEIGHT;
-            }
-        }
+    if m % 2 == 0 || m > limits::MAX_WEIGHTS {
+        return false;
     }
-    false
+    numeric::inner::all_in_range(weights, limits::MAX_WEIGHT)
+        && numeric::word_of(weights[m / 2]) == limits::MAX_WEIGHT
 }

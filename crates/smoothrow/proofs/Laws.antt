@@ -1,7 +1,8 @@
 -- Laws of the row that is searched.
 use mathlib.Core.Path.{◌≡◌, refl, sym, ap, ◌∙◌, subst}
 use mathlib.Core.Bool.{Bool, true, false, ◌||◌}
-use mathlib.Core.List.{List, [], ◌++◌}
+use mathlib.Core.List.{List, ◌++◌}
+use Rattle.std.specs.Prelude.{Some}
 use Prim.Native.Nat.{ℕ}
 use native.Mathlib.Omega.{arith}
 use lib.Dec.{leb, eqb}
@@ -18,33 +19,39 @@ use Rattle.params.specs.declared.ImDetectParams.{ImDetectParams}
 use Rattle.smoothing.specs.Smoothing.{tabulate, smoothed_at, smoothed, normalised, sound_weights}
 use Rattle.smoothing.proofs.Laws.{smoothed-length}
 use Rattle.smoothing.proofs.InRange.{smoothed-in-range, smoothed-fits}
-use Rattle.rowsearch.specs.Qualifying.{highest_reading, reaches, kept}
+use Rattle.rowsearch.specs.Qualifying.{highest_reading, reaches}
 use Rattle.rowsearch.specs.Found.{Searchable}
 use Rattle.rowsearch.specs.Found as rows
-use Rattle.smoothrow.specs.SmoothRow.{searched, sound_or_none, Handed, Done}
-use Rattle.smoothrow.specs.declared.inner.Sought.TheVariants.{Nothing, Raw, Smoothed}
+use Rattle.smoothrow.specs.SmoothRow.{is_raw, searched, sound_or_none, samples_in, Handed, Done}
 
 -- ---- the row that is searched
-pub as-it-is : (weights z : List Float) → (eqb (length weights) 0 || leb (length z) 2) ≡ true → searched weights z ≡ z
+pub as-it-is : (weights z : List Float) → is_raw weights z ≡ true → searched weights z ≡ z
 unfolding searched
 as-it-is weights z h = rw h
 
-pub as-smoothed : (weights z : List Float) → (eqb (length weights) 0 || leb (length z) 2) ≡ false → searched weights z ≡ smoothed weights z
+pub as-smoothed : (weights z : List Float) → is_raw weights z ≡ false → searched weights z ≡ smoothed weights z
 unfolding searched
 as-smoothed weights z h = rw h
 
+-- where those samples stand
+pub raw-samples : (weights z y : List Float) → is_raw weights z ≡ true → samples_in weights z y ≡ z
+raw-samples weights z y h = rw h
+
+pub smooth-samples : (weights z y : List Float) → is_raw weights z ≡ false → samples_in weights z y ≡ take (length z) y
+smooth-samples weights z y h = rw h
+
 pub searched-length : (weights z : List Float) → length (searched weights z) ≡ length z
-searched-length weights z = go (eqb (length weights) 0 || leb (length z) 2) refl
+searched-length weights z = go (is_raw weights z) refl
   where
-    go : (b : Bool) → (eqb (length weights) 0 || leb (length z) 2) ≡ b → length (searched weights z) ≡ length z
+    go : (b : Bool) → is_raw weights z ≡ b → length (searched weights z) ≡ length z
     go true e = ap length (as-it-is weights z e)
     go false e = ap length (as-smoothed weights z e) ∙ smoothed-length weights z
 
 -- it is one of binary32 values, and in range, where the row is
 pub searched-fits : (weights z : List Float) → AllFit z → AllFit (searched weights z)
-searched-fits weights z f = go (eqb (length weights) 0 || leb (length z) 2) refl
+searched-fits weights z f = go (is_raw weights z) refl
   where
-    go : (b : Bool) → (eqb (length weights) 0 || leb (length z) 2) ≡ b → AllFit (searched weights z)
+    go : (b : Bool) → is_raw weights z ≡ b → AllFit (searched weights z)
     go true e = subst AllFit (sym (as-it-is weights z e)) f
     go false e = subst AllFit (sym (as-smoothed weights z e)) (smoothed-fits weights z)
 
@@ -74,14 +81,14 @@ module _ (p : ImDetectParams) (z weights : List Float) (scratch samples : ℕ) (
       record { numbers = all-wider 0x4f80_0000 0x7f80_0000 z (omega arith) h.readings; raw = refl; short = h.short; room = h.room; floor = f }
 
   -- weights are given
-  sound : (eqb (length weights) 0 || leb (length z) 2) ≡ false → sound_weights weights ≡ true
+  sound : is_raw weights z ≡ false → sound_weights weights ≡ true
   sound g = go (eqb (length weights) 0) g h.weighed
     where
       go : (b : Bool) → (b || leb (length z) 2) ≡ false → (b || sound_weights weights) ≡ true → sound_weights weights ≡ true
       go true a k = clash true refl a
       go false a k = k
 
-  pub smooth-searchable : (y : List Float) → y ≡ smoothed weights z → (eqb (length weights) 0 || leb (length z) 2) ≡ false → AllFit weights → AllFit z
+  pub smooth-searchable : (y : List Float) → y ≡ smoothed weights z → is_raw weights z ≡ false → AllFit weights → AllFit z
       → Searchable p y z samples
   smooth-searchable y e g w v =
       let l : length y ≡ length z = ap length e ∙ smoothed-length weights z in
@@ -94,13 +101,12 @@ module _ (p : ImDetectParams) (z weights : List Float) (scratch samples : ℕ) (
       }
 
 -- ---- what a search leaves
-pub done_none : (p : ImDetectParams) (weights z y : List Float) (found : List ℕ) → kept p (searched weights z) z ≡ [] → Done p weights z y y found Nothing
-done_none p weights z y found e = record { says = e; past = refl }
+pub done-raw : (p : ImDetectParams) (weights z y : List Float) (found : List ℕ) (n : ℕ) → is_raw weights z ≡ true → rows.Done p z z found n
+    → Done p weights z y y found (Some n)
+done-raw p weights z y found n h d =
+    let s = raw-samples weights z y h in record { says = rw s (as-it-is weights z h, d); past = refl }
 
-pub done-raw : (p : ImDetectParams) (weights z y : List Float) (found : List ℕ) (n : ℕ) → (eqb (length weights) 0 || leb (length z) 2) ≡ true → rows.Done p z z found n
-    → Done p weights z y y found (Raw n)
-done-raw p weights z y found n h d = record { says = (as-it-is weights z h, d); past = refl }
-
-pub done-smoothed : (p : ImDetectParams) (weights z d y : List Float) (found : List ℕ) (n : ℕ) → (eqb (length weights) 0 || leb (length z) 2) ≡ false
-    → (take (length z) y ≡ smoothed weights z) × (drop (length z) y ≡ drop (length z) d) → rows.Done p (take (length z) y) z found n → Done p weights z d y found (Smoothed n)
-done-smoothed p weights z d y found n h f k = record { says = (as-smoothed weights z h ∙ sym f.0, k); past = f.1 }
+pub done-smoothed : (p : ImDetectParams) (weights z d y : List Float) (found : List ℕ) (n : ℕ) → is_raw weights z ≡ false
+    → (take (length z) y ≡ smoothed weights z) × (drop (length z) y ≡ drop (length z) d) → rows.Done p (take (length z) y) z found n → Done p weights z d y found (Some n)
+done-smoothed p weights z d y found n h f k =
+    let s = smooth-samples weights z y h in record { says = rw s (as-smoothed weights z h ∙ sym f.0, k); past = f.1 }

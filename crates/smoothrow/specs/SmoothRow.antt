@@ -1,5 +1,5 @@
 -- The search of a row z that is smoothed where weights are given.
-use Rattle.std.specs.Prelude.{◌≡◌, Bool, true, cond, ◌&&◌, ◌||◌, List, [], ◌∷◌, ℕ, ◌≤◌, leb, eqb, length, take, drop, Float}
+use Rattle.std.specs.Prelude.{◌≡◌, Bool, true, cond, ◌&&◌, ◌||◌, List, [], ◌∷◌, ℕ, ◌≤◌, leb, eqb, length, take, drop, Float, Option, None, Some}
 use Rattle.std.specs.Float.Ieee.{eq}
 use Rattle.limits.specs.Limits.{exact_index, max_reading}
 use Rattle.numeric.specs.Arith.{𝟎}
@@ -8,12 +8,14 @@ use Rattle.params.specs.declared.ImDetectParams.{ImDetectParams}
 use Rattle.smoothing.specs.Smoothing.{smoothed, sound_weights}
 use Rattle.rowsearch.specs.Qualifying.{kept}
 use Rattle.rowsearch.specs.Found.{Standing}
-use Rattle.smoothrow.specs.declared.inner.Sought.{Sought}
-use Rattle.smoothrow.specs.declared.inner.Sought.TheVariants.{Nothing, Raw, Smoothed}
 
--- the row that is searched: smoothed where weights are given and it has more than 2 samples
+-- a row is searched as it is where no weights are given or it has at most 2 samples
+abbrev pub is_raw : List Float → List Float → Bool
+is_raw weights z = eqb (length weights) 0 || leb (length z) 2
+
+-- the row that is searched, else smoothed
 unfoldable pub searched : List Float → List Float → List Float
-searched weights z = cond (eqb (length weights) 0 || leb (length z) 2) z (smoothed weights z)
+searched weights z = cond (is_raw weights z) z (smoothed weights z)
 
 -- weights that number 6 lets pass: none, or sound ones
 abbrev pub sound_or_none : List Float → Bool
@@ -37,14 +39,17 @@ pub record Handed (z weights : List Float) (scratch samples : ℕ) : Type 0 wher
   pub long : length z ≤ scratch
   pub room : length z ≤ samples
 
--- What was sought: no apex is kept; or so many, found in the row itself; or in the smoothed row, which is at the front of y.
-abbrev pub Says : ImDetectParams → List Float → List Float → List Float → List ℕ → Sought → Type 0
-Says p weights z y found Nothing = kept p (searched weights z) z ≡ []
-Says p weights z y found (Raw n) = (searched weights z ≡ z) × Standing z z found n (kept p z z)
-Says p weights z y found (Smoothed n) =
-    (searched weights z ≡ take (length z) y) × Standing (take (length z) y) z found n (kept p (take (length z) y) z)
+-- the samples that are searched, where the smoothed row is at the front of y
+abbrev pub samples_in : List Float → List Float → List Float → List Float
+samples_in weights z y = cond (is_raw weights z) z (take (length z) y)
+
+-- What was sought: no apex is kept; or so many, found in those samples.
+abbrev pub Says : ImDetectParams → List Float → List Float → List Float → List ℕ → Option ℕ → Type 0
+Says p weights z y found None = kept p (searched weights z) z ≡ []
+Says p weights z y found (Some n) =
+    let samples = samples_in weights z y in (searched weights z ≡ samples) × Standing samples z found n (kept p samples z)
 
 -- past the row, the list for the smoothed one is as it was
-pub record Done (p : ImDetectParams) (weights z y₀ y : List Float) (found : List ℕ) (r : Sought) : Type 0 where
+pub record Done (p : ImDetectParams) (weights z y₀ y : List Float) (found : List ℕ) (r : Option ℕ) : Type 0 where
   pub says : Says p weights z y found r
   pub past : drop (length z) y ≡ drop (length z) y₀

@@ -1,5 +1,6 @@
 -- How far an apex reaches at a height: y is the row that is searched, z the raw one.
-use Rattle.std.specs.Prelude.{cond, List, ℕ, ◌-◌, leb, length, Float, Option, Some, None}
+use Rattle.std.specs.Prelude.{cond, List, ℕ, ◌-◌, ◌≤◌, ◌<◌, leb, length, Float, Option, Some, None}
+use Rattle.limits.specs.Limits.{exact_index}
 use Rattle.numeric.specs.Arith.{◌⊖◌, 𝟎, index_f}
 use Rattle.numeric.specs.Numeric.{max_f, min_f, clamp_f, cast_f}
 use Rattle.rounding.specs.Rounding.{floor_f, ceil_f, round_f}
@@ -7,6 +8,12 @@ use Rattle.apex.specs.Apex.{left_foot, right_foot, left_crossing, right_crossing
 use Rattle.area.specs.Area.{area_f}
 use Rattle.spans.specs.declared.inner.Reach.{Reach}
 use Rattle.spans.specs.declared.inner.Span.{Span}
+
+-- the apex at i lies in a row of n samples, and the raw one has m; both can be counted in floats
+pub record Within (n m i : ℕ) : Type 0 where
+  pub inside : i < n
+  pub short : n ≤ exact_index
+  pub raw-short : m ≤ exact_index
 
 -- the sample at or next to a place, within a row of n
 abbrev pub sample_at : ℕ → Float → ℕ

@@ -8,7 +8,7 @@ use Rattle.record.specs.declared.ImPeak1D.{ImPeak1D}
 use Rattle.peaklist.specs.PeakList.{list_words}
 use Rattle.matching.specs.declared.StitchParams.{StitchParams}
 use Rattle.passes.specs.Stitching.{stitched, owners_of}
-use Rattle.passes.specs.Left.{Left, out_in, owners_in, order_in, groups_in, keys_in, merged_in}
+use Rattle.passes.specs.declared.Lent.{Lent as LentLists}
 use Rattle.stitch.specs.declared.numbers.Rooms.{Rooms}
 use Rattle.stitch.specs.StitchNumber.{peaks_in, stitch_number}
 
@@ -25,9 +25,9 @@ abbrev pub lent : List ℕ → List ℕ → List ℕ → List ℕ → List ℕ �
 lent out owners order groups keys merged =
     record { out = out; owners = owners; order = order; groups = groups; keys = keys; merged = merged }
 
--- as they are left where a function returns
-abbrev pub left : Left → Lent
-left l = lent (out_in l) (owners_in l) (order_in l) (groups_in l) (keys_in l) (merged_in l)
+-- those of the struct that holds them
+abbrev pub lent_in : LentLists → Lent
+lent_in l = lent l.out.now l.owners.now l.order.now l.groups.now l.keys.now l.merged.now
 
 -- how long they are
 abbrev pub rooms_of : Lent → Rooms

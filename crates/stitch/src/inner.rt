@@ -1,5 +1,6 @@
 // The entry, for a caller that may know a further reason for number 4.
-ghost use Rattle.stitch.specs.Answer.{lent, left, Answered};
+ghost use Rattle.passes.specs.Lists.{SameLists};
+ghost use Rattle.stitch.specs.Answer.{lent_in, Answered};
 
 use super::numbers::Rooms;
 use matching::StitchParams;
@@ -12,32 +13,14 @@ pub fn stitch_told(
     list: &[u32],
     params: StitchParams,
     told: bool,
-    lists: Lent,
+    lists: &mut Lent<'_>,
 ) -> Result<usize, Refusal>
-    ensures { Answered told list.now params
-        (lent lists.entry.out.now lists.entry.owners.now lists.entry.order.now lists.entry.groups.now lists.entry.keys.now lists.entry.merged.now)
-        (left lists.exit)
-        result }
+    ensures answer { Answered told list.now params (lent_in lists.old) (lent_in lists.new) result }
+    ensures same { SameLists lists.old lists.new }
 {
-    let Lent {
-        out,
-        owners,
-        order,
-        groups,
-        keys,
-        merged,
-    } = lists;
-    let room = Rooms {
-        out: out.len(),
-        owners: owners.len(),
-        order: order.len(),
-        groups: groups.len(),
-        keys: keys.len(),
-        merged: merged.len(),
-    };
     let n = list.len() / ImPeak1D::WORDS;
     // an identity twice is found last, since what finds it leaves the order that stitching starts from
-    match super::numbers::check(list, params, told, room) {
+    match super::numbers::check(list, params, told, Rooms::of(lists)) {
         Ok(()) => {}
         Err(refusal) => {
             if refusal.number() < 8 {
@@ -49,15 +32,7 @@ pub fn stitch_told(
             return Err(Refusal::Identity);
         }
     }
-    if distinct::inner::put_by_identity(list, n, order) {
-        let lists = Lent {
-            out,
-            owners,
-            order,
-            groups,
-            keys,
-            merged,
-        };
+    if distinct::inner::put_by_identity(list, n, lists.order) {
         let count = passes::inner::stitch_peaks(list, n, params, lists);
         return Ok(count);
     }

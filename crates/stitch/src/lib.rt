@@ -5,37 +5,22 @@ pub mod inner;
 pub mod numbers;
 
 ghost use Rattle.std.specs.Prelude.{true};
-ghost use Rattle.stitch.specs.Answer.{lent, Answered};
+ghost use Rattle.passes.specs.Lists.{SameLists};
+ghost use Rattle.stitch.specs.Answer.{lent_in, Answered};
 
 use matching::StitchParams;
 use passes::Lent;
 use refusal::Refusal;
 
 // Writes the records of the stitched peaks to the front of `out`, and for each peak of the list the place of its stitched one to the
-// front of `owners`; or refuses with the lowest number that applies and leaves all six lists as they are. The six are not lent as one `Lent`
-// here: the prover loses what becomes of a lent struct that is passed on whole.
+// front of `owners`; or refuses with the lowest number that applies and leaves all six lists as they are.
 pub fn stitch_im_peaks_flat_unordered_impl(
     list: &[u32],
     params: StitchParams,
-    out: &mut [u32],
-    owners: &mut [u32],
-    order: &mut [u32],
-    groups: &mut [u32],
-    keys: &mut [u32],
-    merged: &mut [u32],
+    lists: &mut Lent<'_>,
 ) -> Result<usize, Refusal>
-    ensures { Answered true list.now params
-        (lent out.old owners.old order.old groups.old keys.old merged.old)
-        (lent out.new owners.new order.new groups.new keys.new merged.new)
-        result }
+    ensures answer { Answered true list.now params (lent_in lists.old) (lent_in lists.new) result }
+    ensures same { SameLists lists.old lists.new }
 {
-    let lists = Lent {
-        out,
-        owners,
-        order,
-        groups,
-        keys,
-        merged,
-    };
     inner::stitch_told(list, params, true, lists)
 }

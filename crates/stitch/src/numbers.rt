@@ -2,8 +2,10 @@
 ghost use Rattle.std.specs.Prelude.{◌≡◌};
 ghost use Rattle.refusal.specs.Numbered.{number_in};
 ghost use Rattle.stitch.specs.StitchNumber.{other_number};
+ghost use Rattle.stitch.specs.Answer.{lent_in, rooms_of};
 
 use matching::StitchParams;
+use passes::Lent;
 use record::ImPeak1D;
 use refusal::Refusal;
 
@@ -16,6 +18,21 @@ pub struct Rooms {
     pub groups: usize,
     pub keys: usize,
     pub merged: usize,
+}
+
+impl Rooms {
+    pub fn of(lists: &Lent<'_>) -> Rooms
+        ensures { result ≡ rooms_of (lent_in lists.now) }
+    {
+        Rooms {
+            out: lists.out.len(),
+            owners: lists.owners.len(),
+            order: lists.order.len(),
+            groups: lists.groups.len(),
+            keys: lists.keys.len(),
+            merged: lists.merged.len(),
+        }
+    }
 }
 
 // Refuses with the lowest number but 8 that applies. Where `told` is false number 4 applies whatever the parameters are.
@@ -33,7 +50,7 @@ pub fn check(list: &[u32], params: StitchParams, told: bool, room: Rooms) -> Res
     if !(told & params.is_sound()) {
         return Err(Refusal::Value);
     }
-    if !record::inner::all_sound(list, n) {
+    if !record::inner::all_sound(list) {
         return Err(Refusal::Record);
     }
     let words = n * ImPeak1D::WORDS;

@@ -247,9 +247,5 @@ module _ {y : List Float} {turns : List ℕ} {m : ℕ} (p : AllPlain y) (t : Tur
       (rw (← left) (walk_is (at y c) (at y c) (left_of y c) x x (omega arith) (left-plain y c p (omega arith))))
       (rw (← right) (walk_is (at y c) (at y c) (right_of y c) x x (omega arith) (right-plain y c p)))
 
-  -- the law, and its turned form
-  pub base_word : (k : ℕ) → k < m → word (baseline y (turn turns (2 * k + 1))) ≡ base_at (mark_at y turns) m k
-  base_word k n = (base-is k n).is
-
   pub base-float : (k : ℕ) → k < m → of_bits binary32 (base_at (mark_at y turns) m k) ≡ baseline y (turn turns (2 * k + 1))
   base-float k n = of-pattern (base-is k n)

@@ -14,7 +14,7 @@ use lib.Seq.{get_or-set_same, get_or-set_other}
 use lib.Ieee.{Float}
 use Rattle.numeric.specs.Plain.{AllPlain}
 use Rattle.turns.specs.Turns.{turn, Turning}
-use Rattle.sweep.specs.Lows.{left_low, right_low, left_low_of, base_at, Based}
+use Rattle.sweep.specs.Lows.{left_low, right_low, left_low_of, base_at}
 use Rattle.sweep.specs.Stack.{Marked, Swept, apex_at, gap_at, height_at, stack_low, Ahead, Stacked, Walks, Ends, Passes, Popped, based}
 
 -- ---- the lower of three
@@ -104,15 +104,6 @@ module _ (mark : ℕ → ℕ) (m k : ℕ) (bases stack : List ℕ) (t low h : �
 pub pop-passes : (mark : ℕ → ℕ) (k h : ℕ) (stack : List ℕ) (first t low : ℕ) → height_at mark stack t < h → Passes mark k h stack first (suc t) low
     → Passes mark k h stack first t (min (gap_at stack t) low)
 pop-passes mark k h stack first t low less w x l q = w x l q ∙ passes mark stack x (min low l) t (omega arith) ∙ ap (λ (z : ℕ). stack_low mark stack x z t) (min_assoc (gap_at stack t) low l)
-
--- where the top one is not below h, none is
-pub all-high : (mark : ℕ → ℕ) (m k : ℕ) (bases stack : List ℕ) (d low h : ℕ) → Stacked mark m k bases stack d low → h ≤ height_at mark stack (d - 1)
-    → (t : ℕ) → t < d → h ≤ height_at mark stack t
-all-high mark m k bases stack d low h s p t q = omega (arith, s.falls t (d - 1) (omega arith) (omega arith))
-
--- what the sweep begins with
-pub starts-passing : (mark : ℕ → ℕ) (k h : ℕ) (stack : List ℕ) (d low : ℕ) → Walks mark k stack d → Passes mark k h stack low d low
-starts-passing mark k h stack d low w x l p = w x (min low l)
 
 -- ---- the left low of the next apex
 -- an equal apex on top is passed, and behind it the walk goes as its own went
@@ -238,10 +229,6 @@ none-swept mark m bases stack = record {
   };
   walks = λ h low. refl;
 }
-
--- the bases are settled where the stack is empty
-pub all-based : (mark : ℕ → ℕ) (m : ℕ) (bases stack : List ℕ) (d low : ℕ) → d ≡ 0 → Stacked mark m m bases stack d low → Based mark m bases
-all-based mark m bases stack d low e s k p = s.settled k p (λ t q. absurd (omega arith))
 
 -- ---- the turns are places of the row
 valley-inside : (y : List Float) (turns : List ℕ) (m : ℕ) → Turning y turns m → (i : ℕ) → i ≤ m → turn turns (2 * (m - i)) < length y

@@ -1,8 +1,8 @@
 // Steps over a row that the caller has checked.
-ghost use Rattle.std.specs.Prelude.{◌≡◌, ◌+◌, ◌*◌, ◌≤◌, ◌<◌, min, length, get_or};
+ghost use Rattle.std.specs.Prelude.{◌≡◌, ◌+◌, ◌*◌, ◌≤◌, ◌<◌, min, length};
 ghost use Rattle.limits.specs.Limits.{exact_index};
 ghost use Rattle.numeric.specs.Plain.{AllPlain};
-ghost use Rattle.turns.specs.Turns.{turn, Turning};
+ghost use Rattle.turns.specs.Turns.{Turning};
 ghost use Rattle.sweep.specs.Lows.{mark_at, Based};
 ghost use Rattle.sweep.specs.Stack.{Marked, Roomy, Stacked, Walks, Ends, High, Popped, Swept, apex_at, gap_at, stack_low, based};
 ghost use Rattle.sweep.specs.Searched.{Room, Searched};
@@ -14,17 +14,36 @@ struct Rest {
     low: u32,
 }
 
-// The bit pattern of the reading at a turn.
-fn mark(y: &[f32], turns: &[u32], j: usize) -> u32
-    requires { AllPlain y.now × (j < length turns.now) × (turn turns.now j < length y.now) }
-    ensures { result ≡ mark_at y.now turns.now j }
-{
-    let i = turns[j] as usize;
-    f32::to_bits(y[i])
+// Where a sweep over the m apexes of a row stands: at the apex k, or behind the last one.
+#[derive(Clone, Copy)]
+struct Sweep<'a> {
+    y: &'a [f32],
+    turns: &'a [u32],
+    m: usize,
+    k: usize,
+    ghost marked: { Marked y.now turns.now m },
 }
 
-// The entry t leaves the stack: the base of its apex is the higher of its left low, which stands there, and its right low. Answers the lowest
-// valley behind the entry below.
+impl<'a> Sweep<'a> {
+    // The bit pattern of the reading at the valley left of the apex j, or behind the last apex.
+    fn valley(self, j: usize) -> u32
+        requires { j ≤ self.m }
+        ensures { result ≡ mark_at self.entry.y.now self.entry.turns.now (2 * j) }
+    {
+        f32::to_bits(self.y[self.turns[2 * j] as usize])
+    }
+
+    // That of the reading at the apex j.
+    fn apex(self, j: usize) -> u32
+        requires { j < self.m }
+        ensures { result ≡ mark_at self.entry.y.now self.entry.turns.now (2 * j + 1) }
+    {
+        f32::to_bits(self.y[self.turns[2 * j + 1] as usize])
+    }
+}
+
+// The entry t leaves the stack: the base of its apex is the higher of its left low, which stands there, and its right low. Answers the
+// lowest valley behind the entry below.
 fn settle(bases: &mut [u32], stack: &[u32], t: usize, low: u32) -> u32
     requires { (2 * t + 1 < length stack.now) × (apex_at stack.now t < length bases.old) }
     ensures { (result ≡ min (gap_at stack.now t) low) × (bases.new ≡ based bases.old stack.now t low) }
@@ -34,26 +53,16 @@ fn settle(bases: &mut [u32], stack: &[u32], t: usize, low: u32) -> u32
     stack[2 * t + 1].min(low)
 }
 
-// Takes the apexes below h off the stack, where a walk to their right ends at the apex k, and settles their bases. Those that stay are
-// not below h. Here and below m and k say where the sweep stands; where only contracts name them no code is left of them.
-fn pop(
-    y: &[f32],
-    turns: &[u32],
-    m: usize,
-    k: usize,
-    bases: &mut [u32],
-    stack: &[u32],
-    depth: usize,
-    h: u32,
-    low: u32,
-) -> Rest
-    requires { Marked y.now turns.now m × Roomy m k bases.old stack.now × Stacked (mark_at y.now turns.now) m k bases.old stack.now depth low × Walks (mark_at y.now turns.now) k stack.now depth × Ends (mark_at y.now turns.now) m k h }
-    ensures { Popped (mark_at y.now turns.now) m k h bases.new stack.now low result.depth result.low }
+// Takes the apexes below h off the stack, where a walk to their right ends at the apex that the sweep is at, and settles their bases.
+// Those that stay are not below h.
+fn pop(at: Sweep<'_>, bases: &mut [u32], stack: &[u32], depth: usize, h: u32, low: u32) -> Rest
+    requires { Roomy at.m at.k bases.old stack.now × Stacked (mark_at at.y.now at.turns.now) at.m at.k bases.old stack.now depth low × Walks (mark_at at.y.now at.turns.now) at.k stack.now depth × Ends (mark_at at.y.now at.turns.now) at.m at.k h }
+    ensures { Popped (mark_at at.entry.y.now at.entry.turns.now) at.entry.m at.entry.k h bases.new stack.now low result.depth result.low }
 {
     let mut least = low;
+    // By numbers: an entry has two words, and how many entries stay is part of the answer.
     for t in (0..depth).rev() {
-        let j = stack[2 * t] as usize;
-        if h <= mark(y, turns, 2 * j + 1) {
+        if h <= at.apex(stack[2 * t] as usize) {
             return Rest {
                 depth: t + 1,
                 low: least,
@@ -68,68 +77,42 @@ fn pop(
 }
 
 // The left low of an apex of height h that comes next, where no entry is below h: an equal apex on top is passed, and its left low counts.
-fn left_of(
-    y: &[f32],
-    turns: &[u32],
-    m: usize,
-    k: usize,
-    bases: &[u32],
-    stack: &[u32],
-    depth: usize,
-    h: u32,
-    low: u32,
-) -> u32
-    requires { Marked y.now turns.now m × Roomy m k bases.now stack.now × Stacked (mark_at y.now turns.now) m k bases.now stack.now depth low × High (mark_at y.now turns.now) stack.now depth h }
-    ensures { result ≡ stack_low (mark_at y.now turns.now) stack.now h low depth }
+fn left_of(at: Sweep<'_>, bases: &[u32], stack: &[u32], depth: usize, h: u32, low: u32) -> u32
+    requires { Roomy at.m at.k bases.now stack.now × Stacked (mark_at at.y.now at.turns.now) at.m at.k bases.now stack.now depth low × High (mark_at at.y.now at.turns.now) stack.now depth h }
+    ensures { result ≡ stack_low (mark_at at.entry.y.now at.entry.turns.now) stack.now h low depth }
 {
     if depth == 0 {
         return low;
     }
     let t = depth - 1;
     let j = stack[2 * t] as usize;
-    if h < mark(y, turns, 2 * j + 1) {
+    if h < at.apex(j) {
         return low;
     }
     bases[j].min(low)
 }
 
-// Passes the apex k: those below it leave the stack, and it is put on top. Answers how many entries there are then.
-fn pass(
-    y: &[f32],
-    turns: &[u32],
-    m: usize,
-    k: usize,
-    bases: &mut [u32],
-    stack: &mut [u32],
-    depth: usize,
-) -> usize
-    requires { Marked y.now turns.now m × (k < m) × Roomy m k bases.old stack.old × Swept (mark_at y.now turns.now) m k bases.old stack.old depth }
-    ensures { Swept (mark_at y.now turns.now) m (k + 1) bases.new stack.new result }
+// Passes the apex that the sweep is at: those below it leave the stack, and it is put on top. Answers how many entries there are then.
+fn pass(at: Sweep<'_>, bases: &mut [u32], stack: &mut [u32], depth: usize) -> usize
+    requires { (at.k < at.m) × Roomy at.m at.k bases.old stack.old × Swept (mark_at at.y.now at.turns.now) at.m at.k bases.old stack.old depth }
+    ensures { Swept (mark_at at.entry.y.now at.entry.turns.now) at.entry.m (at.entry.k + 1) bases.new stack.new result }
 {
-    let h = mark(y, turns, 2 * k + 1);
-    let valley = mark(y, turns, 2 * k);
-    let rest = pop(y, turns, m, k, bases, stack, depth, h, valley);
-    let left = left_of(y, turns, m, k, bases, stack, rest.depth, h, rest.low);
-    stack[2 * rest.depth] = k as u32;
+    let h = at.apex(at.k);
+    let rest = pop(at, bases, stack, depth, h, at.valley(at.k));
+    let left = left_of(at, bases, stack, rest.depth, h, rest.low);
+    stack[2 * rest.depth] = at.k as u32;
     stack[2 * rest.depth + 1] = rest.low;
-    bases[k] = left;
+    bases[at.k] = left;
     rest.depth + 1
 }
 
 // Takes all entries off the stack, behind the last apex.
-fn settle_all(
-    y: &[f32],
-    turns: &[u32],
-    m: usize,
-    bases: &mut [u32],
-    stack: &[u32],
-    depth: usize,
-    low: u32,
-)
-    requires { Roomy m m bases.old stack.now × Stacked (mark_at y.now turns.now) m m bases.old stack.now depth low }
-    ensures { Based (mark_at y.now turns.now) m bases.new }
+fn settle_all(at: Sweep<'_>, bases: &mut [u32], stack: &[u32], depth: usize)
+    requires { (at.k ≡ at.m) × Roomy at.m at.m bases.old stack.now × Stacked (mark_at at.y.now at.turns.now) at.m at.m bases.old stack.now depth (mark_at at.y.now at.turns.now (2 * at.m)) }
+    ensures { Based (mark_at at.entry.y.now at.entry.turns.now) at.entry.m bases.new }
 {
-    let mut least = low;
+    let mut least = at.valley(at.m);
+    // By numbers, as in `pop`.
     for t in (0..depth).rev() {
         least = settle(bases, stack, t, least);
     }
@@ -140,12 +123,12 @@ fn fill_bases(y: &[f32], turns: &[u32], m: usize, bases: &mut [u32], stack: &mut
     requires { AllPlain y.now × Turning y.now turns.now m × (m ≤ length bases.old) × (2 * m ≤ length stack.old) × (m ≤ exact_index) }
     ensures { Based (mark_at y.now turns.now) m bases.new }
 {
-    let mut d = 0usize;
+    let mut depth = 0usize;
+    // By numbers: k is where the sweep stands.
     for k in 0..m {
-        d = pass(y, turns, m, k, bases, stack, d);
+        depth = pass(Sweep { y, turns, m, k }, bases, stack, depth);
     }
-    let valley = mark(y, turns, 2 * m);
-    settle_all(y, turns, m, bases, stack, d, valley);
+    settle_all(Sweep { y, turns, m, k: m }, bases, stack, depth);
 }
 
 // Finds the candidates of a row and their baselines, and answers how many there are. The stack is scratch.

@@ -25,8 +25,9 @@ fn may_go_on(digits: u32, b: u8) -> bool
     b.is_ascii_digit() & (digits < 8)
 }
 
-// The readings of a line, given without its CR LF, to the front of `row`. Where the line is no row, some of the first 4,096
-// places of `row` may have been written.
+// The readings of a line, given without its CR LF, to the front of `row`. Where the line is no row, some of the first 4,096 places of
+// `row` may have been written. One pass: the number, its digits and the count are the state of the field that is being read, whose end is
+// not known before its comma.
 pub fn parse_row(line: &[u8], row: &mut [f32]) -> Option<usize>
     requires { max_fields ≤ length row.old }
     ensures text { result ≡ row_text line.now }
@@ -145,7 +146,7 @@ fn hex_digit(d: u32) -> u8
     }
 }
 
-// Writes the eight digits of a word to the front of `out`.
+// Writes the eight digits of a word to the front of `out`: a line for each, as the definition has them.
 fn put_hex(out: &mut [u8], w: u32)
     requires { 8 ≤ length out.old }
     ensures { out.new ≡ hex8 w ++ drop 8 out.old }

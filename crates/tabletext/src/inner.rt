@@ -81,6 +81,7 @@ pub fn put_lines(s: Progress, bytes: &[u8], seen: usize, row: &mut [f32], out: &
         used: 0,
     };
     let mut look = seen;
+    // A `while`: it ends where the room does, and no list has the lines.
     while table::LINE_ROOM <= out.len() - f.used {
         let Some(i) = table::next_line(bytes, look) else {
             return f;

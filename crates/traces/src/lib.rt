@@ -10,8 +10,8 @@ use refusal::Refusal;
 use tof::TofScale;
 use windows::inner::Bounds;
 
-// Puts a sum for each frame to the front of `out`, of the readings with scans from scan_lo to scan_hi and with bins around a TOF row, as far
-// as bin_pad, and answers how many they are. Or refuses and leaves `out` as it is.
+// Puts a sum for each frame to the front of `out`, of the readings with scans from scan_lo to scan_hi and with bins around a TOF row, as
+// far as bin_pad, and answers how many they are. Or refuses and leaves `out` as it is.
 pub fn rt_trace_for_im_peak(
     ix: &FrameIndex,
     tof_row: u32,

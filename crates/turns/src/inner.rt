@@ -16,10 +16,8 @@ pub fn turns_of(y: &[f32], turns: &mut [u32]) -> usize
     }
     turns[0] = 0;
     let mut up = y[0] < y[1];
-    let mut j = 0usize;
-    if up {
-        j = 1;
-    }
+    let mut j = usize::from(up);
+    // Places: i is what is written, and j where. Both ends of the row are left out.
     for i in 1..n - 1 {
         turns[j] = i as u32;
         let on = y[i] < y[i + 1];

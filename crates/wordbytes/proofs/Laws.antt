@@ -31,14 +31,6 @@ pub fill_done : {A : Type 0} (l d out : List A) (i : ℕ) → i ≡ length d →
 fill_done l d out i h e = e ∙ rw (h, drop-length, append-nil)
 
 -- ---- words that are written
-pub put4 : (b : List ℕ) (i p q r s : ℕ) → i + 4 ≤ length b
-    → set (set (set (set b i p) (i + 1) q) (i + 2) r) (i + 3) s ≡ take i b ++ ((p ∷ q ∷ r ∷ s ∷ []) ++ drop (i + 4) b)
-put4 b i p q r s h =
-    let e1 : i + 1 ≡ suc i = omega arith in
-    let e2 : i + 2 ≡ suc (suc i) = omega arith in
-    let e3 : i + 3 ≡ suc (suc (suc i)) = omega arith in
-    rw (e1, e2, e3) (sets-eq (p ∷ q ∷ r ∷ s ∷ []) b i h ∙ append_assoc (take i b) (p ∷ q ∷ r ∷ s ∷ []) (drop (i + 4) b))
-
 -- n items P at the front of the buffer d, and r items R right behind them
 pub behind : {A : Type 0} (P R d out next : List A) (n r : ℕ) → length P ≡ n → out ≡ P ++ drop n d → next ≡ take n out ++ (R ++ drop (n + r) out)
     → next ≡ (P ++ R) ++ drop (n + r) d

@@ -1,4 +1,5 @@
-// Words and floats read from bytes, words written to bytes, and tests of words in bytes.
+// Words and floats read from bytes, words written to bytes, and tests of words in bytes. Words in bytes are no slice of words, so the tests
+// read them at places; params has the same tests of a slice, which are a walk over it and need no place.
 ghost use Rattle.std.specs.Prelude.{◌≡◌, true, ◌++◌, ◌≤◌, ◌<◌, ◌+◌, ◌*◌, length, take, drop};
 ghost use Rattle.limits.specs.Limits.{max_reading};
 ghost use Rattle.numeric.specs.Numeric.{all_in_range};
@@ -28,8 +29,8 @@ pub fn put_words(out: &mut [u8], ws: &[u32])
     requires { length ws.now * 4 ≤ length out.old }
     ensures { out.new ≡ bytes_of ws.now ++ drop (length ws.now * 4) out.old }
 {
-    for i in 0..ws.len() {
-        put_word(out, i, ws[i]);
+    for (i, &w) in ws.iter().enumerate() {
+        put_word(out, i, w);
     }
 }
 
@@ -38,8 +39,8 @@ pub fn decode_floats(b: &[u8], from: usize, out: &mut [f32])
     requires { ((from + length out.old) * 4 ≤ length b.now) × (all_in_range max_reading (floats_of b.now) ≡ true) }
     ensures { out.new ≡ take (length out.old) (drop from (floats_of b.now)) }
 {
-    for i in 0..out.len() {
-        out[i] = f32::from_bits(word_at(b, from + i));
+    for (i, value) in out.iter_mut().enumerate() {
+        *value = f32::from_bits(word_at(b, from + i));
     }
 }
 

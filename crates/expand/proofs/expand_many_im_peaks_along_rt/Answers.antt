@@ -4,7 +4,7 @@ use Rattle.expandmany.specs.Many.{Many}
 use Rattle.expandmany.specs.Calls.{many_lent}
 use Rattle.expand.specs.ExpandCall.{Lent, many_number}
 use Rattle.expand.specs.Lists.{lent_in}
-use Rattle.expand.proofs.CallLaws.{followed, ready, lendable, short, answered, refused}
+use Rattle.expand.proofs.CallLaws.{followed, as-many, ready, lendable, short, answered, refused}
 use Rattle.expand.proofs.expand_many_im_peaks_along_rt.Goals.{In_ok-check}
 use Rattle.expand.proofs.expand_many_im_peaks_along_rt.Goals as goal
 
@@ -30,17 +30,17 @@ pub invariant_of-followed : goal.invariant_of-followed
 invariant_of-followed c = let d = (goal.at.invariant_of-followed c).In_ok-check in
     record { followed = rw c.of-index.ensures (followed (call d) (lent d) (length d.args.counts.now) (none d)) }
 
-pub expand_lent-total-requires : goal.expand_lent-total-requires
-expand_lent-total-requires c = let d = (goal.at.expand_lent-total-requires c).In_ok-check in
+pub expand_lent-requires : goal.expand_lent-requires
+expand_lent-requires c = let d = (goal.at.expand_lent-requires c).In_ok-check in
     let counts = length d.args.counts.now in
     let named : d.args.peaks.first < 4294967296 = omega (arith, c.ranges.peaks) in (
-      rw c.of-index.ensures (ready (call d) (lent d) counts (none d) named),
+      rw (c.of-index.ensures, as-many (call d) (lent d) counts (none d)) (ready (call d) (lent d) counts (none d) named),
       lendable (call d) (lent d) counts (none d),
       short (call d) (lent d) counts (none d),
     )
 
 pub returns-clause-answer : goal.returns-clause-answer
 returns-clause-answer c = let d = (goal.at.returns-clause-answer c).In_ok-check in
-    let r = c.expand_lent-total in
-    answered (call d) (lent d) (lent_in r.new.lent) d.args.counts.now r.new.counts r.result (none d) (rw c.of-index.ensures at r.ensures.done)
+    let r = c.expand_lent in
+    answered (call d) (lent d) (lent_in r.new.lent) d.args.counts.now r.new.counts r.result (none d) (rw (c.of-index.ensures, as-many (call d) (lent d) (length d.args.counts.now) (none d)) at r.ensures.done)
     r.ensures.past

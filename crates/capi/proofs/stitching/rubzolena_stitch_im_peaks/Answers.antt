@@ -4,4 +4,4 @@ use Rattle.capi.proofs.stitching.rubzolena_stitch_im_peaks.Goals as goal
 
 pub overflow_mul-result : goal.overflow_mul-result
 overflow_mul-result c = let told = c.stitch_told in
-    record { fits = omega (arith, few-stitched told.ensures c.in-Ok.n c.in-Ok.is, c.well_formed.0) }
+    record { fits = omega (arith, few-stitched told.ensures.answer c.in-Ok.n c.in-Ok.is, c.well_formed.0) }

@@ -12,11 +12,11 @@ pub returns-then-top : goal.returns-then-top
 unfolding fallback_of
 returns-then-top c = rw (← c.top_of-top.ensures, c.if-top.true)
 
-pub reach_of-reach-requires : goal.reach_of-reach-requires
-reach_of-reach-requires c = (top_within c.args.trace.now c.top_of-top.result c.top_of-top.ensures (omega arith), c.requires.0)
+pub invariant_of-reach_of : goal.invariant_of-reach_of
+invariant_of-reach_of c = record { inside = top_within c.args.trace.now c.top_of-top.result c.top_of-top.ensures (omega arith) }
 
-pub span_of-span-requires : goal.span_of-span-requires
-span_of-span-requires c = (top_within c.args.trace.now c.top_of-top.result c.top_of-top.ensures (omega arith), c.requires.0, c.requires.0, c.reach_of-reach.ensures)
+pub invariant_of-found : goal.invariant_of-found
+invariant_of-found c = record { within = record { inside = top_within c.args.trace.now c.top_of-top.result c.top_of-top.ensures (omega arith); short = c.requires.0; raw-short = c.requires.0 } }
 
 pub apex_of-apex-requires : goal.apex_of-apex-requires
 apex_of-apex-requires c = let i = top_within c.args.trace.now c.top_of-top.result c.top_of-top.ensures (omega arith) in

@@ -1,9 +1,6 @@
-use Rattle.std.proofs.Common.{◌∙◌}
+use Rattle.std.proofs.Common.{rules, ◌∙◌}
 use Rattle.framesapi.proofs.ViewWords.{view-fits, view-word}
 use Rattle.framesapi.proofs.view.rubzolena_build_frame_bin_view.Goals as goal
 
 pub word_of-requires : goal.word_of-requires
-word_of-requires c = rw c.bins_of.ensures (view-fits c.build_frame_bin_view-answer.ensures)
-
-pub returns : goal.returns
-returns c = view-word c.build_frame_bin_view-answer.ensures _ (c.word_of.ensures ∙ c.bins_of.ensures)
+word_of-requires c = rw c.bins_of.ensures (view-fits c.build_frame_bin_view-answer.ensures.answer)

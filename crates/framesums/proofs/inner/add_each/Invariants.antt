@@ -1,8 +1,8 @@
-use Rattle.std.proofs.Common.{◌≡◌, ◌-◌, List, ℕ}
+use Rattle.std.proofs.Common.{◌≡◌, ◌-◌, ◌+◌, List, ℕ}
 use Rattle.frameindex.specs.FrameIndex.{index_of}
 use Rattle.framesums.specs.Sums.{add_points}
 use Rattle.framesums.proofs.inner.add_each.Given as goal
 
-abbrev pub invariant-loop-j : goal.invariant-loop-j
-invariant-loop-j l = (starts bins offsets : List ℕ) → let ix = index_of starts bins offsets l.scans l.readings in
-    add_points ix l.w (l.fn.p.to - l.fn.p.from) l.fn.p.from l.so ≡ add_points ix l.w (l.fn.p.to - l.j) l.j l.sum
+abbrev pub invariant-loop-k : goal.invariant-loop-k
+invariant-loop-k l = (starts bins offsets : List ℕ) → let ix = index_of starts bins offsets l.scans l.readings in
+    add_points ix l.w (l.fn.p.to - l.fn.p.from) l.fn.p.from l.so ≡ add_points ix l.w (l.fn.p.to - (l.fn.p.from + l.k)) (l.fn.p.from + l.k) l.sum

@@ -1,16 +1,16 @@
-use mathlib.Core.Path.{◌∙◌, ap}
-use lib.ListN.{length}
-use Rattle.row.specs.Written.{as_words}
-use Rattle.gridrows.specs.Steps.{grid_in, numbered}
-use Rattle.gridrows.proofs.Laws.{row-length, row-handed, row_done}
+use Rattle.gridrows.specs.Steps.{with_weights, numbered}
+use Rattle.gridrows.proofs.Laws.{row-handed, row_done}
 use Rattle.gridrows.proofs.rows.detect_row.Goals as goal
 
 pub list_row-requires : goal.list_row-requires
-list_row-requires c = row-handed (numbered (grid_in c.args.call.now c.args.kernel.now.weights.now) c.args.first) c.args.r _ c.requires.0 _ _ _ c.requires.1 c.requires.2 c.row_part-z.ensures
+list_row-requires g c = let x = c.args in
+    let grid = numbered (with_weights x.kernel.now.weights.now (g.G.Source.grid x.grid.now)) x.first in
+    let room = c.requires.row in
+    let lent = c.requires.lent in
+    (room.0, room.1, rw c.row-row.ensures.axis (row-handed grid x.r room.0 room.2 _ _ _ lent.1 lent.2 c.row-row.ensures.readings))
 
 pub returns-clause-done : goal.returns-clause-done
-returns-clause-done c =
-    row_done (numbered (grid_in c.args.call.now c.args.kernel.now.weights.now) c.args.first) c.args.r _ c.requires.0 as_words _ _ _ _ _ c.row_part-z.ensures c.row_place-place.ensures c.list_row.ensures.listed
-
-pub returns-clause-past : goal.returns-clause-past
-returns-clause-past c = rw (ap length c.row_part-z.ensures ∙ row-length (numbered (grid_in c.args.call.now c.args.kernel.now.weights.now) c.args.first) c.args.r _ c.requires.0) at c.list_row.ensures.past
+returns-clause-done g c = let x = c.args in
+    let grid = numbered (with_weights x.kernel.now.weights.now (g.G.Source.grid x.grid.now)) x.first in
+    let row = c.row-row.ensures in
+    row_done grid x.r c.requires.row.0 c.requires.row.2 g.G.Form.Written.form _ _ _ _ _ _ _ _ row.readings row.place row.bounds row.mobility row.axis (rw c.params.ensures at c.list_row.ensures.listed)

@@ -1,81 +1,103 @@
-use mathlib.Core.Path.{refl, ◌∙◌}
+use mathlib.Core.Path.{◌≡◌, refl, ◌∙◌}
 use Prim.Native.Nat.{◌≤◌, ◌<◌, ◌-◌, ◌+◌, ◌*◌, ◌^◌}
 use native.Mathlib.Omega.{arith}
-use borrow.Author.Rules.{rules}
+use borrow.Author.Rules.{rules, scaled_fits≤}
 use borrow.Rule.Slice.PartMut.{same_len_mid}
 use lib.ListN.{length, length-take, length-drop}
 use Rattle.params.specs.Params.{most_peaks}
-use Rattle.record.specs.Record.{size}
-use Rattle.row.specs.Written.{as_words}
-use Rattle.gridrows.specs.Steps.{grid_in, numbered}
-use Rattle.gridrows.proofs.Laws.{listed-bound, done-start, turn-most, turn-ids, turn-room, turn-ready, turn-done}
+use Rattle.row.specs.Written.{stride}
+use Rattle.gridrows.specs.Steps.{with_weights, numbered}
+use Rattle.gridrows.proofs.Laws.{listed-bound, done-start, turn-most, turn-ids, turn-fits, turn-at, turn-ready, turn-done}
 use Rattle.gridrows.proofs.rows.detect_rows.Goals as goal
 
 pub loop-r-init : goal.loop-r-init
-loop-r-init c = record { out = refl; y = refl; samples = refl; few = omega arith; done = done-start as_words (grid_in c.args.call.now c.args.kernel.now.weights.now) c.args.from c.args.out.now; past = refl }
+loop-r-init g c = record { out = refl; z = refl; y = refl; samples = refl; few = omega arith; done = done-start g.G.Form.Written.form (with_weights c.args.kernel.now.weights.now (g.G.Source.grid c.args.grid.now)) c.args.from c.args.out.now; past = refl }
 
 pub overflow_mul-at : goal.overflow_mul-at
-overflow_mul-at c =
-    let room : c.loop-r.n * size + most_peaks c.args.call.now.cols * size ≤ length c.loop-r.out = let l = c.loop-r in
-    rw l.invariant.out (turn-room (grid_in c.args.call.now c.args.kernel.now.weights.now) c.args.from c.args.to _ c.requires.0 l.r l.n c.loop-r.auto.r (omega arith) l.invariant.done.count) in
-    omega (arith, room, c.loop-r.invariant.out, c.well_formed)
+overflow_mul-at g c =
+    let l = c.loop-r in
+    let at : l.n * c.PLACES.result ≤ length l.out =
+    turn-at (with_weights c.args.kernel.now.weights.now (g.G.Source.grid c.args.grid.now)) c.args.from c.args.to c.requires.rows.0 c.requires.rows.2 l.r l.n l.auto.r (omega arith) l.invariant.done.count
+    g.G.Form.Written.form c.PLACES.result _ _ (c.PLACES.ensures ∙ g.met.G.Form.Written.places) c.requires.rows.1 l.invariant.out in
+    let h = at in search rules
 
 pub overflow_cast-id : goal.overflow_cast-id
-overflow_cast-id c =
-    let ids : (c.loop-r.n < 2 ^ 32) × (c.args.call.now.first + c.loop-r.n < 2 ^ 32) = let l = c.loop-r in
-    turn-ids (grid_in c.args.call.now c.args.kernel.now.weights.now) c.args.from c.args.to _ c.requires.0 l.r l.n c.loop-r.auto.r (omega arith) l.invariant.done.count (omega (arith, c.well_formed)) in
+overflow_cast-id g c =
+    let x = c.args in
+    let l = c.loop-r in
+    let grid = with_weights x.kernel.now.weights.now (g.G.Source.grid x.grid.now) in
+    let ids : (l.n < 2 ^ 32) × (grid.first + l.n < 2 ^ 32) =
+    turn-ids grid x.from x.to c.requires.rows.0 c.requires.rows.2 l.r l.n l.auto.r (omega arith) l.invariant.done.count (rw c.first.ensures at c.first.type_inv) in
     let h = ids in search rules
 
 pub overflow_add-id : goal.overflow_add-id
-overflow_add-id c =
-    let ids : (c.loop-r.n < 2 ^ 32) × (c.args.call.now.first + c.loop-r.n < 2 ^ 32) = let l = c.loop-r in
-    turn-ids (grid_in c.args.call.now c.args.kernel.now.weights.now) c.args.from c.args.to _ c.requires.0 l.r l.n c.loop-r.auto.r (omega arith) l.invariant.done.count (omega (arith, c.well_formed)) in
-    let h = ids in search rules
+overflow_add-id g c =
+    let x = c.args in
+    let l = c.loop-r in
+    let grid = with_weights x.kernel.now.weights.now (g.G.Source.grid x.grid.now) in
+    let ids : (l.n < 2 ^ 32) × (grid.first + l.n < 2 ^ 32) =
+    turn-ids grid x.from x.to c.requires.rows.0 c.requires.rows.2 l.r l.n l.auto.r (omega arith) l.invariant.done.count (rw c.first.ensures at c.first.type_inv) in
+    rw c.first.ensures (let h = ids in search rules)
 
 pub offset_bounds-out-at : goal.offset_bounds-out-at
-offset_bounds-out-at c =
-    let room : c.loop-r.n * size + most_peaks c.args.call.now.cols * size ≤ length c.loop-r.out = let l = c.loop-r in
-    rw l.invariant.out (turn-room (grid_in c.args.call.now c.args.kernel.now.weights.now) c.args.from c.args.to _ c.requires.0 l.r l.n c.loop-r.auto.r (omega arith) l.invariant.done.count) in
-    omega (arith, room, c.loop-r.invariant.out, c.well_formed)
+offset_bounds-out-at g c =
+    let l = c.loop-r in
+    let at : l.n * c.PLACES.result ≤ length l.out =
+    turn-at (with_weights c.args.kernel.now.weights.now (g.G.Source.grid c.args.grid.now)) c.args.from c.args.to c.requires.rows.0 c.requires.rows.2 l.r l.n l.auto.r (omega arith) l.invariant.done.count
+    g.G.Form.Written.form c.PLACES.result _ _ (c.PLACES.ensures ∙ g.met.G.Form.Written.places) c.requires.rows.1 l.invariant.out in
+    let h = at in search (rules, scaled_fits≤)
 
 pub slice_bounds-detect_row-count : goal.slice_bounds-detect_row-count
-slice_bounds-detect_row-count c =
-    let room : c.loop-r.n * size + most_peaks c.args.call.now.cols * size ≤ length c.loop-r.out = let l = c.loop-r in
-    rw l.invariant.out (turn-room (grid_in c.args.call.now c.args.kernel.now.weights.now) c.args.from c.args.to _ c.requires.0 l.r l.n c.loop-r.auto.r (omega arith) l.invariant.done.count) in
-    let h = room in search rules
+slice_bounds-detect_row-count g c =
+    let l = c.loop-r in
+    let at : l.n * c.PLACES.result ≤ length l.out =
+    turn-at (with_weights c.args.kernel.now.weights.now (g.G.Source.grid c.args.grid.now)) c.args.from c.args.to c.requires.rows.0 c.requires.rows.2 l.r l.n l.auto.r (omega arith) l.invariant.done.count
+    g.G.Form.Written.form c.PLACES.result _ _ (c.PLACES.ensures ∙ g.met.G.Form.Written.places) c.requires.rows.1 l.invariant.out in
+    at
 
 pub slice_bounds-detect_row-start : goal.slice_bounds-detect_row-start
-slice_bounds-detect_row-start c =
-    let room : c.loop-r.n * size + most_peaks c.args.call.now.cols * size ≤ length c.loop-r.out = let l = c.loop-r in
-    rw l.invariant.out (turn-room (grid_in c.args.call.now c.args.kernel.now.weights.now) c.args.from c.args.to _ c.requires.0 l.r l.n c.loop-r.auto.r (omega arith) l.invariant.done.count) in
-    let h = room in search rules
-
-pub detect_row-n-requires : goal.detect_row-n-requires
-detect_row-n-requires c =
+slice_bounds-detect_row-start g c =
     let l = c.loop-r in
-    let room : l.n * size + most_peaks c.args.call.now.cols * size ≤ length l.out =
-    rw l.invariant.out (turn-room (grid_in c.args.call.now c.args.kernel.now.weights.now) c.args.from c.args.to _ c.requires.0 l.r l.n l.auto.r (omega arith) l.invariant.done.count) in (
-      turn-ready (grid_in c.args.call.now c.args.kernel.now.weights.now) c.args.from c.args.to _ c.requires.0 l.r l.n l.auto.r (omega arith) l.invariant.done.count _ (rw (length-take, length-drop) (omega (arith, room, l.invariant.out))),
-      rw l.invariant.y c.requires.1,
-      rw l.invariant.samples c.requires.2,
-    )
+    let at : l.n * c.PLACES.result ≤ length l.out =
+    turn-at (with_weights c.args.kernel.now.weights.now (g.G.Source.grid c.args.grid.now)) c.args.from c.args.to c.requires.rows.0 c.requires.rows.2 l.r l.n l.auto.r (omega arith) l.invariant.done.count
+    g.G.Form.Written.form c.PLACES.result _ _ (c.PLACES.ensures ∙ g.met.G.Form.Written.places) c.requires.rows.1 l.invariant.out in
+    let h = at in search rules
+
+pub detect_row-n-requires-clause-row : goal.detect_row-n-requires-clause-row
+detect_row-n-requires-clause-row g c =
+    let x = c.args in
+    let l = c.loop-r in
+    let grid = with_weights x.kernel.now.weights.now (g.G.Source.grid x.grid.now) in
+    let w = g.G.Form.Written.form in
+    let e : c.PLACES.result ≡ stride w = c.PLACES.ensures ∙ g.met.G.Form.Written.places in
+    let fits = turn-fits grid x.from x.to c.requires.rows.0 c.requires.rows.2 l.r l.n l.auto.r (omega arith) l.invariant.done.count w (length l.out) (rw l.invariant.out c.requires.rows.1) in
+    let left = c.requires.rows.0 - l.n * 27 in
+    (left, rw (length-take, length-drop, e) (omega (arith, fits.1)), rw c.first.ensures (turn-ready grid x.from x.to c.requires.rows.0 c.requires.rows.2 l.r l.n l.auto.r (omega arith) l.invariant.done.count left (omega arith)))
 
 pub overflow_add-n : goal.overflow_add-n
-overflow_add-n c =
-    let most : c.loop-r.n + most_peaks c.args.call.now.cols ≤ (c.args.to - c.args.from) * most_peaks c.args.call.now.cols = let l = c.loop-r in
-    turn-most (grid_in c.args.call.now c.args.kernel.now.weights.now) c.args.from c.args.to _ c.requires.0 l.r l.n c.loop-r.auto.r (omega arith) l.invariant.done.count in
-    let b = listed-bound (numbered (grid_in c.args.call.now c.args.kernel.now.weights.now) (c.args.call.now.first + c.loop-r.n)) c.loop-r.r in
-    omega (arith, most, b, c.requires.0.ids, c.detect_row-n.ensures.done.count)
+overflow_add-n g c =
+    let x = c.args in
+    let l = c.loop-r in
+    let grid = with_weights x.kernel.now.weights.now (g.G.Source.grid x.grid.now) in
+    let most : l.n + most_peaks grid.cols ≤ (x.to - x.from) * most_peaks grid.cols =
+    turn-most grid x.from x.to c.requires.rows.0 c.requires.rows.2 l.r l.n l.auto.r (omega arith) l.invariant.done.count in
+    let b = listed-bound (numbered grid (grid.first + l.n)) l.r in
+    omega (arith, most, b, c.requires.rows.2.ids, rw c.first.ensures at c.detect_row-n.ensures.done.count)
 
 pub loop-r-preserved : goal.loop-r-preserved
-loop-r-preserved c =
+loop-r-preserved g c =
+    let x = c.args in
     let l = c.loop-r in
+    let grid = with_weights x.kernel.now.weights.now (g.G.Source.grid x.grid.now) in
+    let w = g.G.Form.Written.form in
+    let e : c.PLACES.result ≡ stride w = c.PLACES.ensures ∙ g.met.G.Form.Written.places in
     let d = c.detect_row-n in
     record {
-      out = same_len_mid (l.n * size) (length l.out - l.n * size) l.out d.new.out d.auto.out ∙ l.invariant.out;
+      out = same_len_mid (l.n * c.PLACES.result) (length l.out - l.n * c.PLACES.result) l.out d.new.out d.auto.out ∙ l.invariant.out;
+      z = d.auto.z ∙ l.invariant.z;
       y = d.auto.y ∙ l.invariant.y;
       samples = d.ensures.samples ∙ l.invariant.samples;
       few = omega arith;
-      done = turn-done (grid_in c.args.call.now c.args.kernel.now.weights.now) c.args.from c.args.to _ c.requires.0 l.r l.n l.auto.r (omega arith) l.invariant.done.count as_words c.args.out.now l.out _ _ l.invariant.done d.ensures.done;
+      done = rw e (turn-done grid x.from x.to c.requires.rows.0 c.requires.rows.2 l.r l.n l.auto.r (omega arith) l.invariant.done.count w x.out.now l.out _ _ l.invariant.done (rw (e, c.first.ensures) at d.ensures.done));
       past = d.ensures.past ∙ l.invariant.past;
     }

@@ -1,26 +1,20 @@
-use mathlib.Core.Path.{◌≡◌, sym, ◌∙◌, ap}
 use native.Mathlib.Omega.{arith}
-use lib.ListN.{length, take}
+use Rattle.std.specs.Prelude.{None, Some}
 use Rattle.rowsearch.specs.Qualifying.{kept}
 use Rattle.rowsearch.proofs.QualifyingLaws.{kept-count}
-use Rattle.smoothrow.specs.SmoothRow.{Says}
-use Rattle.smoothrow.specs.declared.inner.Sought.TheVariants.{Nothing, Raw, Smoothed}
-use Rattle.smoothrow.proofs.Laws.{searched-length}
-use Rattle.row.specs.Written.{as_words}
-use Rattle.gridrows.proofs.Laws.{ready_for, listed-none}
+use Rattle.smoothrow.specs.SmoothRow.{samples_in, Says}
+use Rattle.gridrows.proofs.Laws.{listed-none}
 use Rattle.gridrows.proofs.rows.list_row.Goals as goal
 
-pub put_peaks-requires : goal.put_peaks-requires
-put_peaks-requires c = let x = (c).args in
-    let h : Says x.call.now.params x.kernel.now.weights.now x.z.now c.search_row-sought.new.y c.search_row-sought.new.scratch.found.now (Raw c.in-Raw.n) = rw c.in-Raw.is at c.search_row-sought.ensures.done.says in
-    ((c).requires.row, omega (arith, h.1.count, kept-count x.call.now.params x.z.now x.z.now), (kept x.call.now.params x.z.now x.z.now, h.1))
+pub returns-in_default-clause-listed : goal.returns-in_default-clause-listed
+returns-in_default-clause-listed g c = let x = c.args in
+    let r = x.row.now in
+    let h : Says x.p x.kernel.now.weights.now r.z.now c.search_row.new.y c.search_row.new.scratch.found.now None = rw c.in_default.is at c.search_row.ensures.done.says in
+    listed-none g.W.Written.form r.place r.bounds (g.M.Column.items r.mobility) x.p (g.S.Column.items r.axis) x.kernel.now.weights.now r.z.now x.first x.out.now h
 
-pub put_peaks-requires-in-Smoothed : goal.put_peaks-requires-in-Smoothed
-put_peaks-requires-in-Smoothed c = let x = (c).args in
-    let h : Says x.call.now.params x.kernel.now.weights.now x.z.now c.search_row-sought.new.y c.search_row-sought.new.scratch.found.now (Smoothed c.in-Smoothed.n) = rw c.in-Smoothed.is at c.search_row-sought.ensures.done.says in
-    let l : length (take (length x.z.now) _) ≡ length x.z.now = sym (ap length h.0) ∙ searched-length x.kernel.now.weights.now x.z.now in
-    (ready_for _ x.z.now x.call.now.scans.now x.first _ l (c).requires.row, omega (arith, h.1.count, kept-count x.call.now.params (take (length x.z.now) c.search_row-sought.new.y) x.z.now), (kept x.call.now.params (take (length x.z.now) c.search_row-sought.new.y) x.z.now, h.1))
-
-pub returns-in-Nothing-clause-listed : goal.returns-in-Nothing-clause-listed
-returns-in-Nothing-clause-listed c = let x = (c).args in
-    let h : Says x.call.now.params x.kernel.now.weights.now x.z.now c.search_row-sought.new.y c.search_row-sought.new.scratch.found.now Nothing = rw c.in-Nothing.is at c.search_row-sought.ensures.done.says in listed-none as_words x.place x.call.now.bounds x.call.now.mobility.now x.call.now.params x.call.now.scans.now x.kernel.now.weights.now x.z.now x.first x.out.now h
+pub put_peaks-requires-clause-apexes : goal.put_peaks-requires-clause-apexes
+put_peaks-requires-clause-apexes g c = let x = c.args in
+    let z = x.row.now.z.now in
+    let y = samples_in x.kernel.now.weights.now z c.search_row.new.y in
+    let h : Says x.p x.kernel.now.weights.now z c.search_row.new.y c.search_row.new.scratch.found.now (Some c.in-Some.n) = rw c.in-Some.is at c.search_row.ensures.done.says in
+    rw c.samples.ensures (omega (arith, h.1.count, kept-count x.p y z), (kept x.p y z, h.1))

@@ -1,11 +1,15 @@
-use mathlib.Core.List.{List}
-use Prim.Native.Nat.{ℕ, ◌≤◌}
-use lib.ListN.{length}
-use Rattle.record.specs.declared.ImPeak1D.{ImPeak1D}
+use mathlib.Core.Path.{◌≡◌}
+use Prim.Native.Nat.{◌+◌, ◌*◌, ◌≤◌}
+use lib.ListN.{length, drop}
+use Rattle.std.specs.Slice.Iter.{chunks_exact_rest, chunks_exact_size}
+use Rattle.record.specs.Record.{size}
+use Rattle.peaklist.specs.PeakList.{peaks_of}
 use Rattle.merging.specs.Walk.{Holds}
-use Rattle.grouping.specs.Grouping.{peaks_at}
-use Rattle.grouping.specs.Walk.{part, Gathered}
 use Rattle.grouping.proofs.inner.gather_part.Given as goal
 
-abbrev pub invariant-loop-k : goal.invariant-loop-k
-invariant-loop-k l = (ps : List ImPeak1D) (order : List ℕ) → l.end ≤ length order → Gathered ps l.sorted order → Holds l.m (peaks_at ps (part order l.i l.k))
+abbrev pub invariant-loop-words : goal.invariant-loop-words
+invariant-loop-words l =
+    (goal.iterator-loop-words).can_next l.words-iterator × (goal.iterator-loop-words).is_finite l.words-iterator
+    × (chunks_exact_size l.words-iterator ≡ size) × ((length l.yielded + 1) * size ≤ length l.records)
+    × (chunks_exact_rest l.words-iterator ≡ drop ((length l.yielded + 1) * size) l.records)
+    × Holds l.m (peaks_of l.records (length l.yielded + 1))

@@ -4,4 +4,4 @@ use Rattle.manytraces.specs.Steps.{Noted}
 use Rattle.manytraces.proofs.inner.put_windows.Given as goal
 
 abbrev pub invariant-loop-k : goal.invariant-loop-k
-invariant-loop-k l = Noted (λ i. peak_window l.scale l.pad (peak_at l.list i)) l.k l.initial.windows l.windows
+invariant-loop-k l = Noted (λ i. peak_window l.peaks.scale l.peaks.pad (peak_at l.peaks.list.now i)) l.k l.initial.windows l.windows

@@ -3,8 +3,8 @@ use mathlib.Core.List.{List, ◌++◌, map}
 use Prim.Native.Nat.{ℕ, ◌<◌, ◌≤◌, ◌*◌}
 use native.Mathlib.Omega.{arith}
 use lib.Dec.{lit≤}
-use lib.ListN.{length, get_or, drop, take}
-use lib.Seq.{length-take-le, get_or-take}
+use lib.ListN.{length, length-append, get_or, drop, take}
+use lib.Seq.{length-take-le, get_or-take, drop_at}
 use Rattle.record.specs.Record.{size}
 use Rattle.peaklist.specs.PeakList.{peaks_of}
 use Rattle.peaklist.proofs.PeakListLaws.{peaks-length, peaks-fit}
@@ -17,6 +17,7 @@ use Rattle.passes.specs.Stitching.{first_groups, first_peaks, second_groups, sti
 use Rattle.passes.specs.Steps.{Passed}
 use Rattle.passes.proofs.PassLaws.{stitched-length, column-rest}
 use Rattle.passes.proofs.Laws.{by-identity, later, fewer, as_many, made-rest, second-read, first-number, owned}
+use Rattle.passes.proofs.inner.stitch_peaks.Goals.{After-pass-m, After-pass_over-found}
 use Rattle.passes.proofs.inner.stitch_peaks.Goals as goal
 
 -- the identity is the last word of a key
@@ -24,90 +25,120 @@ seven : (params : StitchParams) → 7 ≤ width_of (First params)
 unfolding width_of
 seven params = lit≤ tt
 
-pub pass_from-m-requires : goal.pass_from-m-requires
-pass_from-m-requires c = (c.requires.0, c.requires.4, c.requires.3, c.requires.6, c.requires.7, c.requires.1, seven c.args.params, c.requires.8 ∙ by-identity c.args.params (peaks_of c.args.list.now c.args.n))
+-- the first pass, over the first n peaks, makes no more than n
+module _ (w : After-pass-m) where
+  front : length (take w.args.n w.args.lists.now.order.now) ≡ w.args.n
+  front = length-take-le w.args.n w.args.lists.now.order.now w.requires.4
+
+  first : Passed (First w.args.params) w.args.params (peaks_of w.args.list.now w.args.n) w.args.lists.now.owners.now w.args.lists.now.keys.now w.args.lists.now.merged.now w.pass-m.result w.pass-m.new.column w.pass-m.new.keys w.pass-m.new.out
+  first = rw front at w.pass-m.ensures
+
+  few : w.pass-m.result ≤ w.args.n
+  few = omega (arith, fewer w.args.params (peaks_of w.args.list.now w.args.n) w.pass-m.result first.counted, peaks-length w.args.list.now w.args.n)
+
+  ordered : length w.pass-m.new.order ≡ w.args.n
+  ordered = w.pass-m.auto.order ∙ front
+
+pub pass-m-requires : goal.pass-m-requires
+pass-m-requires c = let e = length-take-le c.args.n c.args.lists.now.order.now c.requires.4 in
+    rw e (c.requires.0, c.requires.3, c.requires.6, c.requires.7, c.requires.1, seven c.args.params, c.requires.8 ∙ by-identity c.args.params (peaks_of c.args.list.now c.args.n))
 
 pub overflow_mul-m : goal.overflow_mul-m
-overflow_mul-m c =
-    let few : c.pass_from-m.result ≤ c.args.n = let ps = peaks_of c.args.list.now c.args.n in
-    omega (arith, fewer c.args.params ps c.pass_from-m.result c.pass_from-m.ensures.passed.counted, peaks-length c.args.list.now c.args.n) in
-    record { fits = omega (arith, few, c.requires.0, c.well_formed.0) }
+overflow_mul-m c = record { fits = omega (arith, few (goal.at.overflow_mul-m c).After-pass-m, c.requires.0, c.well_formed.0) }
+
+-- the second pass is over what the first has made
+module _ (w : After-pass_over-found) where
+  second : Passed Second w.args.params (first_peaks w.args.params (peaks_of w.args.list.now w.args.n)) w.args.lists.now.groups.now w.pass-m.new.keys w.args.lists.now.out.now w.pass_over-found.result w.pass_over-found.new.column w.pass_over-found.new.keys w.pass_over-found.new.out
+  second =
+      let a = w.pass-m in
+      let ps = peaks_of w.args.list.now w.args.n in
+      let f : Passed (First w.args.params) w.args.params ps w.args.lists.now.owners.now w.args.lists.now.keys.now w.args.lists.now.merged.now a.result a.new.column a.new.keys a.new.out = rw (length-take-le w.args.n w.args.lists.now.order.now w.requires.4) at a.ensures in
+      let few : a.result ≤ w.args.n = omega (arith, fewer w.args.params ps a.result f.counted, peaks-length w.args.list.now w.args.n) in
+      let long : length a.new.order ≡ w.args.n = a.auto.order ∙ length-take-le w.args.n w.args.lists.now.order.now w.requires.4 in
+      let m : length (take a.result (a.new.order ++ drop w.args.n w.args.lists.now.order.now)) ≡ a.result = length-take-le a.result (a.new.order ++ drop w.args.n w.args.lists.now.order.now) (simp length-append (omega (arith, few, long))) in
+      let fit = groups-fit ps (first_groups w.args.params ps) (peaks-fit w.args.list.now w.args.n) in
+      rw (second-read w.args.params ps a.result f.counted a.new.out (drop (a.result * size) w.args.lists.now.merged.now) f.records fit) at (rw m at w.pass_over-found.ensures)
 
 pub slice_bounds-pass_over-end : goal.slice_bounds-pass_over-end
-slice_bounds-pass_over-end c =
-    let few : c.pass_from-m.result ≤ c.args.n = let ps = peaks_of c.args.list.now c.args.n in
-    omega (arith, fewer c.args.params ps c.pass_from-m.result c.pass_from-m.ensures.passed.counted, peaks-length c.args.list.now c.args.n) in
-    omega (arith, few, c.pass_from-m.auto.out, c.requires.7)
+slice_bounds-pass_over-end c = let f = few (goal.at.slice_bounds-pass_over-end c).After-pass-m in
+    sym (length-take-le (c.pass-m.result * size) c.pass-m.new.out (omega (arith, f, c.pass-m.auto.out, c.requires.7)))
 
 pub slice_bounds-pass_over-end-2 : goal.slice_bounds-pass_over-end-2
-slice_bounds-pass_over-end-2 c =
-    let few : c.pass_from-m.result ≤ c.args.n = let ps = peaks_of c.args.list.now c.args.n in
-    omega (arith, fewer c.args.params ps c.pass_from-m.result c.pass_from-m.ensures.passed.counted, peaks-length c.args.list.now c.args.n) in
-    let a = c.pass_from-m in
-    sym (length-take-le (a.result * size) a.new.out (omega (arith, few, a.auto.out, c.requires.7)))
+slice_bounds-pass_over-end-2 c = let w = (goal.at.slice_bounds-pass_over-end-2 c).After-pass-m in
+    simp length-append (omega (arith, few w, ordered w))
+
+pub slice_bounds-pass_over-end-3 : goal.slice_bounds-pass_over-end-3
+slice_bounds-pass_over-end-3 c = let w = (goal.at.slice_bounds-pass_over-end-3 c).After-pass-m in
+    sym (length-take-le c.pass-m.result (c.pass-m.new.order ++ drop c.args.n c.args.lists.now.order.now) (simp length-append (omega (arith, few w, ordered w))))
 
 pub pass_over-found-requires : goal.pass_over-found-requires
-pass_over-found-requires c =
-    let few : c.pass_from-m.result ≤ c.args.n = let ps = peaks_of c.args.list.now c.args.n in
-    omega (arith, fewer c.args.params ps c.pass_from-m.result c.pass_from-m.ensures.passed.counted, peaks-length c.args.list.now c.args.n) in
-    let a = c.pass_from-m in
-    let e = length-take-le (a.result * size) a.new.out (omega (arith, few, a.auto.out, c.requires.7)) in (
-      omega (arith, e),
-      omega (arith, few, a.auto.order, c.requires.4),
-      omega (arith, few, c.requires.5),
-      omega (arith, few, a.auto.keys, c.requires.6),
-      omega (arith, few, c.requires.2),
-      omega (arith, few, c.requires.1),
-    )
+pass_over-found-requires c = let w = (goal.at.pass_over-found-requires c).After-pass-m in
+    let f = few w in
+    let e = length-take-le (c.pass-m.result * size) c.pass-m.new.out (omega (arith, f, c.pass-m.auto.out, c.requires.7)) in
+    let m : length (take c.pass-m.result (c.pass-m.new.order ++ drop c.args.n c.args.lists.now.order.now)) ≡ c.pass-m.result = length-take-le c.pass-m.result (c.pass-m.new.order ++ drop c.args.n c.args.lists.now.order.now) (simp length-append (omega (arith, f, ordered w))) in
+    rw m (omega (arith, e), omega (arith, f, c.requires.5), omega (arith, f, c.pass-m.auto.keys, c.requires.6), omega (arith, f, c.requires.2), omega (arith, f, c.requires.1))
 
 pub hand_on-requires : goal.hand_on-requires
-hand_on-requires c =
-    let few : c.pass_from-m.result ≤ c.args.n = let ps = peaks_of c.args.list.now c.args.n in
-    omega (arith, fewer c.args.params ps c.pass_from-m.result c.pass_from-m.ensures.passed.counted, peaks-length c.args.list.now c.args.n) in
-    let a = c.pass_from-m in
-    let b = c.pass_over-found in
+hand_on-requires c = let w = (goal.at.hand_on-requires c).After-pass-m in
+    let a = c.pass-m in
     let ps = peaks_of c.args.list.now c.args.n in
     let l = peaks-length c.args.list.now c.args.n in
-    let number = first-number c.args.params ps a.result a.ensures.passed.counted a.new.column (drop (length ps) c.args.lists.owners.now) a.ensures.passed.numbers in
+    let number = first-number c.args.params ps a.result (first w).counted a.new.column (drop (length ps) c.args.lists.now.owners.now) (first w).numbers in
     let long : length (take c.args.n a.new.column) ≡ c.args.n = length-take-le c.args.n a.new.column (omega (arith, a.auto.column, c.requires.3)) in
     λ k h.
     let inside : k < c.args.n = omega (arith, h, long) in
-    omega (arith, get_or-take c.args.n a.new.column k 0 inside, number k (omega (arith, inside, l)), few, b.auto.column, c.requires.5)
+    omega (arith, get_or-take c.args.n a.new.column k 0 inside, number k (omega (arith, inside, l)), few w, c.pass_over-found.auto.column, c.requires.5)
 
-pub returns : goal.returns
+pub returns-clause-stitched : goal.returns-clause-stitched
 unfolding stitched
-returns c =
-    let few : c.pass_from-m.result ≤ c.args.n = let ps = peaks_of c.args.list.now c.args.n in
-    omega (arith, fewer c.args.params ps c.pass_from-m.result c.pass_from-m.ensures.passed.counted, peaks-length c.args.list.now c.args.n) in
-    let a = c.pass_from-m in
-    let b = c.pass_over-found in
-    let list = c.args.list.now in
-    let params = c.args.params in
-    let n = c.args.n in
-    let ps = peaks_of list n in
-    let l = peaks-length list n in
-    let m = a.result in
-    let made = a.new.out in
-    let rest = drop (m * size) c.args.lists.merged.now in
-    let hand = c.hand_on in
+returns-clause-stitched c =
+    let w = (goal.at.returns-clause-stitched c).After-pass_over-found in
+    let v = (goal.at.returns-clause-stitched c).After-pass-m in
+    let f = first v in
+    let s = second w in
+    let a = c.pass-m in
+    let ps = peaks_of c.args.list.now c.args.n in
+    let back = drop a.result c.args.lists.now.groups.now in
+    let numbers = rw (as_many c.args.params ps a.result f.counted) at s.numbers in
     let firsts = a.new.column in
-    let seconds = b.new.column in
-    let counted = a.ensures.passed.counted in
-    let fit = groups-fit ps (first_groups params ps) (peaks-fit list n) in
-    let read = second-read params ps m counted made rest a.ensures.passed.records fit in
-    let second : Passed Second params (first_peaks params ps) c.args.lists.groups.now a.new.keys c.args.lists.out.now b.result seconds b.new.keys b.new.out = rw read at b.ensures.passed in
-    let many = as_many params ps m counted in
-    let back = drop m c.args.lists.groups.now in
-    let numbers = rw many at second.numbers in record {
-      stitched = record {
-        counted = second.counted ∙ sym (stitched-length params ps);
-        records = second.records;
-        column =
-            subst (λ (j : ℕ). hand.new.owners ++ drop n firsts ≡ map (λ k. get_or seconds k 0) (take j firsts) ++ drop j firsts) (sym l) (ap (λ (x : List ℕ). x ++ drop n firsts) hand.ensures)
-            ∙ owned params ps m counted firsts (drop (length ps) c.args.lists.owners.now) a.ensures.passed.numbers seconds back numbers;
-      };
-      order = later b.new.order a.new.order m n few b.ensures.order ∙ a.ensures.order;
-      groups = later seconds c.args.lists.groups.now m n few (ap (drop m) numbers ∙ column-rest (number_in (second_groups params ps)) m back);
-      keys = later b.new.keys a.new.keys (m * size) (n * size) (omega (arith, few)) (rw many at second.rest) ∙ rw l at a.ensures.passed.rest;
-      merged = later made c.args.lists.merged.now (m * size) (n * size) (omega (arith, few)) (made-rest params ps m counted made rest a.ensures.passed.records);
+    let seconds = c.pass_over-found.new.column in
+    record {
+      counted = s.counted ∙ sym (stitched-length c.args.params ps);
+      records = s.records;
+      column =
+          subst (λ (j : ℕ). c.hand_on.new.owners ++ drop c.args.n firsts ≡ map (λ k. get_or seconds k 0) (take j firsts) ++ drop j firsts) (sym (peaks-length c.args.list.now c.args.n)) (ap (λ (x : List ℕ). x ++ drop c.args.n firsts) c.hand_on.ensures)
+          ∙ owned c.args.params ps a.result f.counted firsts (drop (length ps) c.args.lists.now.owners.now) f.numbers seconds back numbers;
     }
+
+pub returns-clause-order : goal.returns-clause-order
+returns-clause-order c =
+    let w = (goal.at.returns-clause-order c).After-pass-m in
+    let lent = c.pass-m.new.order ++ drop c.args.n c.args.lists.now.order.now in
+    let m : length (take c.pass-m.result lent) ≡ c.pass-m.result = length-take-le c.pass-m.result lent (simp length-append (omega (arith, few w, ordered w))) in
+    later (c.pass_over-found.new.order ++ drop c.pass-m.result lent) lent c.pass-m.result c.args.n (few w) (drop_at c.pass_over-found.new.order (drop c.pass-m.result lent) c.pass-m.result (c.pass_over-found.auto.order ∙ m))
+    ∙ drop_at c.pass-m.new.order (drop c.args.n c.args.lists.now.order.now) c.args.n (ordered w)
+
+pub returns-clause-groups : goal.returns-clause-groups
+returns-clause-groups c =
+    let w = (goal.at.returns-clause-groups c).After-pass_over-found in
+    let v = (goal.at.returns-clause-groups c).After-pass-m in
+    let ps = peaks_of c.args.list.now c.args.n in
+    let m = c.pass-m.result in
+    let back = drop m c.args.lists.now.groups.now in
+    let numbers = rw (as_many c.args.params ps m (first v).counted) at (second w).numbers in
+    later c.pass_over-found.new.column c.args.lists.now.groups.now m c.args.n (few v) (ap (drop m) numbers ∙ column-rest (number_in (second_groups c.args.params ps)) m back)
+
+pub returns-clause-keys : goal.returns-clause-keys
+returns-clause-keys c =
+    let w = (goal.at.returns-clause-keys c).After-pass_over-found in
+    let v = (goal.at.returns-clause-keys c).After-pass-m in
+    let ps = peaks_of c.args.list.now c.args.n in
+    let m = c.pass-m.result in
+    let rest = rw (as_many c.args.params ps m (first v).counted) at (second w).rest in
+    later c.pass_over-found.new.keys c.pass-m.new.keys (m * size) (c.args.n * size) (omega (arith, few v)) rest ∙ rw (peaks-length c.args.list.now c.args.n) at (first v).rest
+
+pub returns-clause-merged : goal.returns-clause-merged
+returns-clause-merged c =
+    let w = (goal.at.returns-clause-merged c).After-pass-m in
+    let m = c.pass-m.result in
+    later c.pass-m.new.out c.args.lists.now.merged.now (m * size) (c.args.n * size) (omega (arith, few w)) (made-rest c.args.params (peaks_of c.args.list.now c.args.n) m (first w).counted c.pass-m.new.out (drop (m * size) c.args.lists.now.merged.now) (first w).records)

@@ -1,11 +1,12 @@
-use mathlib.Core.Path.{◌≡◌}
-use Prim.Native.Nat.{ℕ, ◌≤◌, ◌<◌, ◌+◌, ◌/◌}
-use lib.ListN.{length}
+use Rattle.std.proofs.Common.{◌≡◌, ◌≤◌, ◌+◌, ◌-◌, ◌/◌, length, drop}
+use Rattle.std.specs.Iterator.Adapters.{zip_first, zip_second}
+use Rattle.std.specs.Slice.Iter.{iter_rest}
 use Rattle.smoothing.specs.Smoothing.{weighted, met}
 use Rattle.smoothing.proofs.inner.end_at.Given as goal
 
-abbrev pub invariant-loop-k : goal.invariant-loop-k
-invariant-loop-k l =
-    (l.left ≤ l.k) × (l.k ≤ l.right) × (length l.u / 2 ≤ l.i + l.left) × (l.right ≤ length l.u) × (l.i + l.right ≤ length l.src + length l.u / 2)
-    × ((j : ℕ) → l.right ≤ j → j < length l.u → length l.src + length l.u / 2 ≤ l.i + j)
-    × (l.sum ≡ weighted l.u l.src l.i l.k) × (l.norm ≡ met l.u (length l.src) l.i l.k)
+abbrev pub invariant-loop-w : goal.invariant-loop-w
+invariant-loop-w l =
+    let k = l.left + length l.yielded in
+    (k ≤ length l.u) × (length l.u / 2 ≤ l.i + k)
+    × (iter_rest (zip_first l.w-iterator) ≡ drop k l.u) × (iter_rest (zip_second l.w-iterator) ≡ drop (l.i + k - length l.u / 2) l.src)
+    × (l.sum ≡ weighted l.u l.src l.i k) × (l.norm ≡ met l.u (length l.src) l.i k)

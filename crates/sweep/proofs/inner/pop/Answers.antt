@@ -7,14 +7,14 @@ use Rattle.sweep.proofs.Laws.{pop-one, pop-passes}
 use Rattle.sweep.proofs.inner.pop.Goals as goal
 
 pub loop-t-preserved : goal.loop-t-preserved
-loop-t-preserved c = let mark = mark_at c.args.y.now c.args.turns.now in
+loop-t-preserved c = let mark = mark_at c.args.at.y.now c.args.at.turns.now in
     let stack = c.args.stack.now in
     let w = c.settle-least in
     let i = c.loop-t.invariant in
     let t = c.loop-t.t - 1 in
     let e : c.loop-t.t ≡ suc t = omega arith in
-    let less : height_at mark stack t < c.args.h = omega (arith, c.mark.ensures) in (
+    let less : height_at mark stack t < c.args.h = omega (arith, c.apex.ensures) in (
       w.auto.bases ∙ i.0,
-      rw (w.ensures.1, w.ensures.0) (pop-one mark c.args.m c.args.k c.loop-t.bases stack t c.loop-t.least c.args.h (omega (arith, i.0, c.requires.1.on, c.requires.1.bases-long)) (rw e at i.1) less c.requires.4),
-      rw w.ensures.0 (pop-passes mark c.args.k c.args.h stack c.args.low t c.loop-t.least less (rw e at i.2)),
+      rw (w.ensures.1, w.ensures.0) (pop-one mark c.args.at.m c.args.at.k c.loop-t.bases stack t c.loop-t.least c.args.h (omega (arith, i.0, c.requires.0.on, c.requires.0.bases-long)) (rw e at i.1) less c.requires.3),
+      rw w.ensures.0 (pop-passes mark c.args.at.k c.args.h stack c.args.low t c.loop-t.least less (rw e at i.2)),
     )

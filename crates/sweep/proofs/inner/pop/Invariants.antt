@@ -6,4 +6,4 @@ use Rattle.sweep.proofs.inner.pop.Given as goal
 
 abbrev pub invariant-loop-t : goal.invariant-loop-t
 invariant-loop-t l =
-    (length l.bases ≡ length l.initial.bases) × Stacked (mark_at l.y l.turns) l.m l.k l.bases l.stack l.t l.least × Passes (mark_at l.y l.turns) l.k l.h l.stack l.low l.t l.least
+    (length l.bases ≡ length l.initial.bases) × Stacked (mark_at l.at.y.now l.at.turns.now) l.at.m l.at.k l.bases l.stack l.t l.least × Passes (mark_at l.at.y.now l.at.turns.now) l.at.k l.h l.stack l.low l.t l.least

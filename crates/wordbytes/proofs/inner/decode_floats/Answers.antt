@@ -13,8 +13,8 @@ use lib.ListN.{length, get_or, drop}
 use lib.Ieee.{nan, binary32}
 use Rattle.wordbytes.proofs.inner.decode_floats.Goals as goal
 
-pub float_from_bits-out : goal.float_from_bits-out
-float_from_bits-out c = let b = c.args.b.now in
+pub float_from_bits-value : goal.float_from_bits-value
+float_from_bits-value c = let b = c.args.b.now in
     let k = c.args.from + c.loop-i.i in
     let n = floats-length b in
     in-range-no-nan max_reading (floats_of b) k _ (omega arith) c.requires.1 (omega arith) c.word_at.type_inv (float-get b k (omega arith) ∙ ap (of_bits binary32) (sym c.word_at.ensures))
@@ -26,4 +26,4 @@ loop-i-preserved c = let b = c.args.b.now in
     let l : length (floats_of b) ≡ length b / 4 = floats-length b in
     let g : length (drop from (floats_of b)) ≡ length b / 4 - from = rw (length-drop, l) in
     let v : of_bits binary32 c.word_at.result ≡ get_or (drop from (floats_of b)) i nan = ap (of_bits binary32) c.word_at.ensures ∙ sym (get_or-drop from (floats_of b) i nan ∙ float-get b (from + i) (omega arith)) in
-    (omega arith, rw length-set c.loop-i.invariant.1, fill-turn (drop from (floats_of b)) c.args.out.now c.loop-i.out i nan _ (omega arith) (omega arith) c.loop-i.invariant.2 v)
+    (rw length-set c.loop-i.invariant.0, fill-turn (drop from (floats_of b)) c.args.out.now c.loop-i.out i nan _ (omega arith) (omega arith) c.loop-i.invariant.1 v)

@@ -1,0 +1,26 @@
+// The lists of a frame: its points, and what is lent for its part of an index.
+
+// The TOF value, the absolute scan and the reading of each point.
+#[derive(Clone, Copy)]
+pub struct Points<'a> {
+    pub tofs: &'a [u32],
+    pub scans: &'a [u32],
+    pub readings: &'a [f32],
+}
+
+// The lists of the frame's part: its distinct bins, where the points of each start, and their scans and readings.
+#[derive(Drop)]
+pub struct View<'a> {
+    pub bins: &'a mut [u32],
+    pub offsets: &'a mut [u32],
+    pub scans: &'a mut [u32],
+    pub readings: &'a mut [f32],
+}
+
+// Three lists of scratch, a word a point.
+#[derive(Drop)]
+pub struct Scratch<'a> {
+    pub keys: &'a mut [u32],
+    pub order: &'a mut [u32],
+    pub spare: &'a mut [u32],
+}
