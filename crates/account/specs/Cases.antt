@@ -25,6 +25,7 @@ use Rattle.gridrows.specs.Grid.{Grid, listed_in}
 use Rattle.gridrows.specs.Steps.{grid_of}
 use Rattle.grid.specs.GridNumber.{grid_number}
 use Rattle.digits.specs.Sorted.{up_to}
+use Rattle.frameindex.specs.IndexNumber.{index_number}
 use Rattle.frameindex.specs.FrameIndex.{climbs_from, climbs_to, frames_rise_from, frames_rise, sound_lists, seen_in}
 use Rattle.framesums.specs.Sums.{add_points, add_bins, add_frame, frame_sums}
 use Rattle.windows.specs.Windows.{bounds_window}
@@ -46,7 +47,7 @@ use Rattle.expandtrace.specs.declared.inner.Way.TheVariants.{Smoothed}
 use Rattle.expandtrace.specs.Trace.{trace_over, any_above, way_of}
 use Rattle.expandpeak.specs.Expanded.{Run, run_of, window_in, floor_of}
 use Rattle.expandnumbers.specs.ExpandNumber.{sum_of, all_weights, sound_values, rising_axes, enough_room}
-use Rattle.expand.specs.ExpandCall.{Lent, lent_of, many_asks, many_number, one_number}
+use Rattle.expand.specs.ExpandCall.{Lent, lent_of, many_asks, one_number}
 use Rattle.expandlaws.specs.ExpandAccount.{raw_over, smooth_over}
 use Rattle.expand.specs.ExpandCall.{OneAnswered}
 use Rattle.rowsearch.specs.Account.{◌∈◌}
@@ -121,7 +122,7 @@ abbrev pub lists : Lent
 lists = lent_of (replicate 88 7) (replicate 9 𝟎) (replicate 9 𝟎) (replicate 9 7)
 
 pub run-accepted : one_number run params peak weights 0 lists ≡ 0
-unfolding many_number many_asks first_of seen_in sound_lists climbs_to climbs_from frames_rise frames_rise_from rising rising_from all_up_to all_in_range in_range sound_values sound_expand sound_mode sound_step sound_ends agreeing sum_of all_weights sound_weights rising_axes never_falls never_falls_from enough_room peak_from all_sound sound sound_tof sound_frames sound_options sound_scans sound_shape lt le of_int of_bits to_bits
+unfolding index_number many_asks first_of seen_in sound_lists climbs_to climbs_from frames_rise frames_rise_from rising rising_from all_up_to all_in_range in_range sound_values sound_expand sound_mode sound_step sound_ends agreeing sum_of all_weights sound_weights rising_axes never_falls never_falls_from enough_room peak_from all_sound sound sound_tof sound_frames sound_options sound_scans sound_shape lt le of_int of_bits to_bits
 run-accepted = refl
 
 pub run-window : Some (record { lo = 0; hi = 8 }) ≡ window_in run params p

@@ -15,7 +15,7 @@ use borrow.Author.Tests.{not-true, ltb-true, ltb-false}
 use lib.Dec.{ltb}
 use Rattle.refusal.proofs.Bools.{clash, both}
 use Rattle.numeric.specs.Numeric.{max_f}
-use Rattle.numeric.proofs.Order.{lt-no-nan, le-no-nan, le_not_lt, not-lt, lt-le, le_trans, lt-le-trans}
+use Rattle.numeric.proofs.Order.{lt-no-nan, le_not_lt, not-lt, lt-le, le_trans, lt-le-trans, max-above}
 use Rattle.apex.specs.Apex.{none_below, left_of, up_to_higher, least, run_above, left_foot, right_foot}
 
 -- ---- what is left of an index, and right of it
@@ -106,13 +106,9 @@ low-stays top m (v ∷ vs) h = low-stays top (cond (lt v m) v m) vs (go (lt v m)
     go true e = lt-le v top (lt-le-trans v m top e h)
     go false e = h
 
-max-low : (top a : Float) → le a top ≡ true → max_f top a ≡ top
-unfolding max_f
-max-low top a h = rw ((le-no-nan a top h).1, le_not_lt top a h)
-
 -- a walk that has come down to one low finds nothing that counts beside it
 pub walk-enough : (top apex m : Float) (xs : List Float) → le m top ≡ true → max_f top (least m (up_to_higher apex xs)) ≡ max_f top m
-walk-enough top apex m xs h = max-low top (least m (up_to_higher apex xs)) (low-stays top m (up_to_higher apex xs) h) ∙ sym (max-low top m h)
+walk-enough top apex m xs h = max-above top (least m (up_to_higher apex xs)) (low-stays top m (up_to_higher apex xs) h) ∙ sym (max-above top m h)
 
 -- ---- the feet
 pub run_on : (h v : Float) (xs vs : List Float) → xs ≡ v ∷ vs → lt h v ≡ true → run_above h xs ≡ suc (run_above h vs)

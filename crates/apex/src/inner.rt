@@ -32,11 +32,8 @@ pub fn is_candidate(y: &[f32], i: usize) -> bool
 fn none_below(y: &[f32], low: f32) -> bool
     ensures { result ≡ none_below low y.now }
 {
-    let mut none = true;
-    for &reading in y {
-        none &= !(reading < low);
-    }
-    none
+    y.iter()
+        .fold(true, |none, &reading| none & !(reading < low))
 }
 
 // A height that no reading is below: 0 for a row of readings that are not negative.
@@ -161,7 +158,7 @@ impl<'a> Level<'a> {
     {
         let Level { y, h, i } = self;
         let mut w = i;
-        // A `while`: the index where it ends is the answer, which a chain of `rev`, `position` and `map_or` says in more words.
+        // A `while`: the index where it ends is the answer; `rposition` of the part behind the first reading gives one less, or none.
         while w > 0 && y[w] > h {
             w -= 1;
         }

@@ -1,27 +1,27 @@
 // Rows of a grid with its weights decoded.
-ghost use Rattle.std.specs.Prelude.{◌≡◌, ◌≤◌, ◌/◌, [], length};
+ghost use Rattle.std.specs.Prelude.{◌≤◌, ◌/◌, [], length};
 ghost use Rattle.wordbytes.specs.Bytes.{floats_of};
 ghost use Rattle.gridrows.specs.Steps.{Ready, Done};
+ghost use Rattle.gridrows.specs.Lent.{Lent};
 ghost use Rattle.byterows.specs.AsBytes.{as_bytes};
 ghost use Rattle.byterows.specs.Call.{bytes_in};
 
 use byterows::call::ByteCall;
+use gridrows::lent::RowScratch;
 use rowsearch::scratch::Scratch;
 use smoothrow::kernel::Kernel;
+use std::ops::Range;
 
-// The records of the peaks of the rows from `from` to `to`, smoothed by weights.
+// The records of the peaks of some rows, smoothed by weights.
 fn detect_smoothed(
     call: &ByteCall<'_>,
     weights: &[u8],
-    from: usize,
-    to: usize,
+    rows: Range<usize>,
     out: &mut [u8],
-    z: &mut [f32],
-    y: &mut [f32],
-    scratch: &mut Scratch<'_>,
+    lent: &mut RowScratch<'_, '_>,
 ) -> usize
-    requires { Ready (bytes_in call.now (floats_of weights.now)) from to (length out.old / 4) × (length z.old ≡ call.now.cols) × (call.now.cols ≤ length y.old) × (call.now.cols ≤ scratch.old.samples) }
-    ensures { Done as_bytes (bytes_in call.now (floats_of weights.now)) from to out.old out.new result }
+    requires { Ready (bytes_in call.now (floats_of weights.now)) rows.start rows.end (length out.old / 4) × Lent call.now.terms.cols call.now.terms.cols lent.old }
+    ensures { Done as_bytes (bytes_in call.now (floats_of weights.now)) rows.start rows.end out.old out.new result }
 {
     let m = weights.len() / 4;
     let mut ws = [0f32; limits::MAX_WEIGHTS];
@@ -32,47 +32,48 @@ fn detect_smoothed(
         weights: &ws[..m],
         divided: &u[..m],
     };
-    byterows::rows::detect_rows(call, &kernel, from, to, out, z, y, scratch)
+    gridrows::rows::detect_rows(call, &kernel, rows, out, lent)
 }
 
 // The same where there are no weights.
 fn detect_plain(
     call: &ByteCall<'_>,
-    from: usize,
-    to: usize,
+    rows: Range<usize>,
     out: &mut [u8],
-    z: &mut [f32],
-    y: &mut [f32],
-    scratch: &mut Scratch<'_>,
+    lent: &mut RowScratch<'_, '_>,
 ) -> usize
-    requires { Ready (bytes_in call.now []) from to (length out.old / 4) × (length z.old ≡ call.now.cols) × (call.now.cols ≤ length y.old) × (call.now.cols ≤ scratch.old.samples) }
-    ensures { Done as_bytes (bytes_in call.now []) from to out.old out.new result }
+    requires { Ready (bytes_in call.now []) rows.start rows.end (length out.old / 4) × Lent call.now.terms.cols call.now.terms.cols lent.old }
+    ensures { Done as_bytes (bytes_in call.now []) rows.start rows.end out.old out.new result }
 {
     let none = [0f32; 0];
     let kernel = Kernel {
         weights: &none,
         divided: &none,
     };
-    byterows::rows::detect_rows(call, &kernel, from, to, out, z, y, scratch)
+    gridrows::rows::detect_rows(call, &kernel, rows, out, lent)
 }
 
-// The same for both, with lists at least as long as a row.
+// The same for both; of `z` a row is used.
 pub fn detect_lent(
     call: &ByteCall<'_>,
     weights: &[u8],
-    from: usize,
-    to: usize,
+    rows: Range<usize>,
     out: &mut [u8],
     z: &mut [f32],
     y: &mut [f32],
     scratch: &mut Scratch<'_>,
 ) -> usize
-    requires { Ready (bytes_in call.now (floats_of weights.now)) from to (length out.old / 4) × (call.now.cols ≤ length z.old) × (call.now.cols ≤ length y.old) × (call.now.cols ≤ scratch.old.samples) }
-    ensures { Done as_bytes (bytes_in call.now (floats_of weights.now)) from to out.old out.new result }
+    requires { Ready (bytes_in call.now (floats_of weights.now)) rows.start rows.end (length out.old / 4)
+        × (call.now.terms.cols ≤ length z.old) × (call.now.terms.cols ≤ length y.old) × (call.now.terms.cols ≤ scratch.old.samples) }
+    ensures { Done as_bytes (bytes_in call.now (floats_of weights.now)) rows.start rows.end out.old out.new result }
 {
-    let cols = call.cols;
-    if weights.len() == 0 {
-        return detect_plain(call, from, to, out, &mut z[..cols], y, scratch);
+    let mut lent = RowScratch {
+        z: &mut z[..call.terms.cols],
+        y,
+        search: scratch,
+    };
+    if weights.is_empty() {
+        return detect_plain(call, rows, out, &mut lent);
     }
-    detect_smoothed(call, weights, from, to, out, &mut z[..cols], y, scratch)
+    detect_smoothed(call, weights, rows, out, &mut lent)
 }

@@ -7,4 +7,5 @@ use Rattle.byterows.specs.declared.call.ByteCall.{ByteCall}
 
 abbrev pub bytes_in : ByteCall → List Float → Grid
 bytes_in c weights =
-    grid_of c.cols (floats_of c.used.now) (words_of c.scans.now) c.scale c.bounds (floats_of c.mobility.now) c.params weights c.first
+    grid_of c.terms.cols (floats_of c.used.now) (words_of c.scans.now) c.terms.scale c.terms.bounds (floats_of c.mobility.now) c.terms.params weights
+    c.terms.first

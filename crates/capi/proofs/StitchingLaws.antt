@@ -1,19 +1,18 @@
 -- What the answer of stitching is as one number.
-use mathlib.Core.Path.{◌≡◌, sym, ap, ◌∙◌}
+use mathlib.Core.Path.{◌≡◌, refl, ap, ◌∙◌}
+use mathlib.Core.Option.{some, none}
 use mathlib.Core.Bool.{Bool, true, false, cond}
 use mathlib.Core.List.{List}
-use Prim.Native.Nat.{ℕ, ◌*◌, ◌≤◌}
+use Prim.Native.Nat.{ℕ, ◌*◌, ◌^◌, ◌<◌}
 use native.Mathlib.Omega.{arith}
-use borrow.Author.Tests.{ne_eqb}
 use lib.Dec.{eqb}
 use Rattle.std.specs.Prelude.{Result, Ok, Err}
 use lib.ListN.{length}
-use Rattle.record.specs.Record.{size}
 use Rattle.refusal.specs.declared.Refusal.{Refusal}
 use Rattle.refusal.specs.Answers.{Says, answer_by}
-use Rattle.refusal.specs.Numbered.{number_of, says}
-use Rattle.refusal.specs.NumberedLaws.{refusal_of}
-use Rattle.refusal.proofs.NumberedLaws.{which, number_of-positive}
+use Rattle.refusal.specs.Numbered.{says}
+use Rattle.entryword.specs.Word.{as_word, word_of, itself}
+use Rattle.refusal.proofs.NumberedLaws.{number_of-small}
 use Rattle.peaklist.proofs.PeakListLaws.{peaks-length}
 use Rattle.matching.specs.declared.StitchParams.{StitchParams}
 use Rattle.passes.specs.Stitching.{stitched}
@@ -22,22 +21,32 @@ use Rattle.stitch.specs.StitchNumber.{count_in, peaks_in}
 use Rattle.stitch.specs.Answer.{Lent, Answered, number_for}
 use Rattle.capi.specs.Entry.{entry_answer}
 
-module _ (r : Result ℕ Refusal) (n count : ℕ) (e : says r ≡ answer_by n count) where
-  pub stitched-answer : (k : ℕ) → r ≡ Ok k → (k ≡ count) × (k * 64 ≡ entry_answer n count)
-  stitched-answer k f = go (eqb n 0) (which ℕ r n count e)
-    where
-      go : (b : Bool) → r ≡ cond b (Ok count) (Err (refusal_of n)) → (k ≡ count) × (k * 64 ≡ cond b (count * 64) n)
-      go true g = let same : k ≡ count = cc in (same, ap (λ (m : ℕ). m * 64) same)
-      go false g = let clash : ◌≡◌ {A = ℕ} 0 1 = cc in absurd (omega arith)
+-- the answer as a word
+word-entry : (n count : ℕ) → word_of itself (answer_by n count) ≡ entry_answer n count
+unfolding as_word
+word-entry n count = go (eqb n 0) refl
+  where
+    go : (b : Bool) → eqb n 0 ≡ b → as_word itself n (cond b (some count) none) ≡ cond b (count * 64) n
+    go true e = refl
+    go false e = refl
 
-  pub refused-answer : (k : Refusal) → r ≡ Err k → number_of k ≡ entry_answer n count
-  refused-answer k f =
-      let number : number_of k ≡ n = ap (λ (a : Says ℕ). a.number) (sym (ap says f) ∙ e) in
-      rw (ne_eqb n 0 (λ z. number_of-positive k (number ∙ z))) number
+-- a count of n whole answers
+count-is : (k n count : ℕ) → says (Ok k) ≡ answer_by n count → k ≡ count
+count-is k n count e = go (eqb n 0) (ap (λ (a : Says ℕ). a.values) e)
+  where
+    go : (b : Bool) → some k ≡ cond b (some count) none → k ≡ count
+    go true f = cc
+    go false f = cc
 
--- no more stitched peaks than records
-pub few-stitched : {told : Bool} {list : List ℕ} {params : StitchParams} {was is : Lent} {r : Result ℕ Refusal} → Answered told list params was is r
-    → (k : ℕ) → r ≡ Ok k → k * size ≤ length list
-few-stitched {told} {list} {params} {was} {is} {r} a k f =
-    let e = stitched-answer r (number_for told list params was) (length (stitched params (peaks_in list))) a.answered k f in
-    omega (arith, e.0, stitched-count params (peaks_in list), peaks-length list (count_in list))
+module _ {told : Bool} {list : List ℕ} {params : StitchParams} {was is : Lent} where
+  pub word-is : {r : Result ℕ Refusal} → Answered told list params was is r
+      → word_of itself (says r) ≡ entry_answer (number_for told list params was) (length (stitched params (peaks_in list)))
+  word-is a = ap (word_of itself) a.answered ∙ word-entry (number_for told list params was) (length (stitched params (peaks_in list)))
+
+  -- no more stitched peaks than records
+  pub word-fits : (r : Result ℕ Refusal) → Answered told list params was is r → length list < 2 ^ 62 → word_of itself (says r) < 2 ^ 64
+  unfolding as_word
+  word-fits (Ok k) a l =
+      let e = count-is k (number_for told list params was) (length (stitched params (peaks_in list))) a.answered in
+      omega (arith, e, stitched-count params (peaks_in list), peaks-length list (count_in list))
+  word-fits (Err e) a l = omega (arith, number_of-small e)

@@ -1,4 +1,5 @@
-// Grid detection as a C function on numbers and byte slices; stitching stands in a module of its own.
+// Grid detection as a C function on numbers and byte slices; stitching stands in a module of its own. Each list is
+// an argument of its own.
 #![tactic(auto)]
 
 pub mod stitching;
@@ -15,6 +16,7 @@ ghost use Rattle.bytegrid.specs.ByteGrid.{byte_grid};
 
 use byterows::call::ByteCall;
 use grid::numbers::Seen;
+use gridrows::call::Terms;
 use params::{FrameBounds, ImDetectParams};
 use record::PeakId;
 use refusal::Refusal;
@@ -40,8 +42,8 @@ fn sound_weights(weights: &[u8]) -> bool
     smoothing::inner::sound_weights(&ws[..m])
 }
 
-// Reads the lists of a grid. The reader of a grid in words has another test for each field: one reader for both would need a trait with
-// all of these tests, and each of them is called at this one place.
+// Reads the lists of a grid, each by the test of its field: those of lists in bytes are other functions than those of lists in words, which
+// the reader of a grid in words calls.
 fn see(used: &[u8], scans: &[u8], mobility: &[u8], weights: &[u8]) -> Seen
     ensures { result ≡ seen_in (floats_of used.now) (words_of scans.now) (floats_of mobility.now) (floats_of weights.now) }
 {
@@ -64,11 +66,22 @@ fn is_past_four(found: Result<(), Refusal>) -> bool
 {
     match found {
         Ok(()) => true,
-        Err(refusal) => refusal.number() > 4,
+        Err(refusal) => refusal > Refusal::Value,
     }
 }
 
-// Refuses a call with the lowest number that applies; `room` is the length of the lent list, in bytes.
+// Whether the lists of a call are whole words; `room` is the length of the lent list, in bytes.
+fn are_whole(call: &ByteCall<'_>, weights: &[u8], room: usize) -> bool
+    ensures { result ≡ all_whole (length call.now.used.now) (length call.now.scans.now) (length call.now.mobility.now) (length weights.now) room }
+{
+    (call.used.len() % 4 == 0)
+        & (call.scans.len() % 4 == 0)
+        & (call.mobility.len() % 4 == 0)
+        & (weights.len() % 4 == 0)
+        & (room % 4 == 0)
+}
+
+// Refuses a call with the lowest number that applies.
 fn check(
     call: &ByteCall<'_>,
     weights: &[u8],
@@ -78,26 +91,11 @@ fn check(
 ) -> Result<(), Refusal>
     ensures { number_in result ≡ entry_number (all_whole (length call.now.used.now) (length call.now.scans.now) (length call.now.mobility.now) (length weights.now) room) flag (bytes_in call.now (floats_of weights.now)) rows (room / 4) }
 {
-    let whole = (call.used.len() % 4 == 0)
-        & (call.scans.len() % 4 == 0)
-        & (call.mobility.len() % 4 == 0)
-        & (weights.len() % 4 == 0)
-        & (room % 4 == 0);
-    if !whole {
+    if !are_whole(call, weights, room) {
         return Err(Refusal::Lengths);
     }
     let seen = see(call.used, call.scans, call.mobility, weights);
-    let found = grid::numbers::check(
-        seen,
-        rows,
-        call.cols,
-        call.scale,
-        call.bounds,
-        call.params,
-        call.first,
-        room / 4,
-        call.cols,
-    );
+    let found = grid::numbers::check(seen, rows, call.terms, room / 4, call.terms.cols);
     if (flag > 1) & is_past_four(found) {
         return Err(Refusal::Value);
     }
@@ -116,13 +114,13 @@ fn detect(
     ensures word { word_of itself (says result) < 2 ^ 64 }
 {
     check(call, weights, rows, flag, out.len())?;
-    Ok(bytegrid::sized::detect_bytes(call, weights, 0, rows, out))
+    Ok(bytegrid::sized::detect_bytes(call, weights, 0..rows, out))
 }
 
 fn group_of(flag: u32, group: u32) -> Option<u32>
     ensures { result ≡ group_of flag group }
 {
-    if flag == 0 { None } else { Some(group) }
+    (flag != 0).then_some(group)
 }
 
 // Writes the records of the peaks of all rows to the front of `out` and answers 64 times their count, or answers with a number
@@ -160,29 +158,31 @@ pub extern "C" fn rubzolena_detect_im_peaks<'a>(
         rows out.old out.new result }
 {
     let call = ByteCall {
-        cols,
-        used: if data_raw.len() == 0 { data } else { data_raw },
+        used: if data_raw.is_empty() { data } else { data_raw },
         scans,
-        scale: TofScale {
-            tof_min,
-            tof_max,
-            tof_step,
-            num_bins,
-        },
-        bounds: FrameBounds {
-            rt_lo,
-            rt_hi,
-            frame_id_lo,
-            frame_id_hi,
-            window_group: group_of(group_flag, window_group),
-        },
         mobility,
-        params: ImDetectParams {
-            min_prom,
-            min_distance_scans,
-            min_width_scans,
+        terms: Terms {
+            cols,
+            scale: TofScale {
+                tof_min,
+                tof_max,
+                tof_step,
+                num_bins,
+            },
+            bounds: FrameBounds {
+                rt_lo,
+                rt_hi,
+                frame_id_lo,
+                frame_id_hi,
+                window_group: group_of(group_flag, window_group),
+            },
+            params: ImDetectParams {
+                min_prom,
+                min_distance_scans,
+                min_width_scans,
+            },
+            first,
         },
-        first,
     };
     entryword::word_of(detect(&call, weights, rows, group_flag, out))
 }

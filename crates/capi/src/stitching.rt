@@ -1,4 +1,4 @@
-// Stitching as a C function on numbers and lists of words.
+// Stitching as a C function on numbers and lists of words. Each list is an argument of its own.
 ghost use Rattle.std.specs.Prelude.{◌≡◌};
 ghost use Rattle.stitch.specs.Answer.{lent};
 ghost use Rattle.capi.specs.Stitching.{params_of, are_flags, Answered};
@@ -32,7 +32,8 @@ pub extern "C" fn rubzolena_stitch_im_peaks(
         (lent out.new owners.new order.new groups.new keys.new merged.new)
         result }
 {
-    let params = StitchParams {
+    let flags = (allow_cross_groups <= 1) & (require_mutual_apex_inside <= 1);
+    let params = flags.then_some(StitchParams {
         min_overlap_frames,
         max_scan_delta,
         jaccard_min,
@@ -41,8 +42,7 @@ pub extern "C" fn rubzolena_stitch_im_peaks(
         min_im_overlap_scans,
         im_jaccard_min,
         require_mutual_apex_inside: require_mutual_apex_inside == 1,
-    };
-    let told = (allow_cross_groups <= 1) & (require_mutual_apex_inside <= 1);
+    });
     let mut lists = Lent {
         out,
         owners,
@@ -51,8 +51,5 @@ pub extern "C" fn rubzolena_stitch_im_peaks(
         keys,
         merged,
     };
-    match stitch::inner::stitch_told(list, params, told, &mut lists) {
-        Ok(n) => (n as u64) * 64,
-        Err(refusal) => u64::from(refusal.number()),
-    }
+    entryword::word_of(stitch::inner::stitch_told(list, params, &mut lists))
 }

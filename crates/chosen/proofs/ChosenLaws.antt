@@ -13,17 +13,9 @@ use lib.Seq.{take-suc}
 use Rattle.refusal.proofs.Bools.{clash}
 use Rattle.rowsearch.specs.Account.{◌∈◌, All}
 use Rattle.chosen.specs.Chosen.{Each, Distinct, near_any, choose, choose_all, chosen, passing, listed, Ranked, GivesWay, Accounted, AllAccounted}
+use Rattle.rowsearch.proofs.Account.{all_none, all_cons, all_tail}
 
 -- ---- lists
-
-pub all_none : (P : ℕ → Type 0) → All P []
-all_none P i m = absurd (Memᴰ.not-nil m)
-
-pub all_cons : (P : ℕ → Type 0) (i : ℕ) (l : List ℕ) → P i → All P l → All P (i ∷ l)
-all_cons P i l h t j m = ⊎_elim (λ (e : j ≡ i). rw e h) (t j) (Memᴰ.cases_cons m)
-
-pub all_tail : (P : ℕ → Type 0) (i : ℕ) (l : List ℕ) → All P (i ∷ l) → All P l
-all_tail P i l f j m = f j (there m)
 
 all_append : (P : ℕ → Type 0) (a b : List ℕ) → All P a → All P b → All P (a ++ b)
 all_append P a b f g j m = ⊎_elim (f j) (g j) (Memᴰ.append_cases a m)

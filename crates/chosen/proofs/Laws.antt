@@ -1,7 +1,7 @@
 -- One step of each loop of `choose`, and nearness without a branch.
 use mathlib.Core.Path.{◌≡◌, refl, sym, ◌∙◌, ap, subst}
 use mathlib.Core.Bool.{Bool, true, false, cond}
-use mathlib.Core.List.{List, [], ◌∷◌, ◌++◌, append_assoc}
+use mathlib.Core.List.{List, [], ◌∷◌, ◌++◌}
 use Prim.Native.Nat.{ℕ, zero, suc, ◌≤◌, ◌<◌, ◌+◌, ◌*◌}
 use native.Mathlib.Omega.{arith}
 use native.Mathlib.Numerals.{add-one}
@@ -13,13 +13,10 @@ use lib.Ieee.{Float, nan, inf, fin, lt, neg, is_nan, up, down}
 use lib.Ieee.Fits.{down_pos}
 use Rattle.numeric.specs.Numeric.{abs_f, max_f}
 use lib.ListN.{length, get_or, drop, take, set, length-append, drop_of_length-le}
-use lib.Seq.{drop-cons, take_at, take_all, set_at, get_or-set_same, get_or-set_other}
+use lib.Seq.{drop-cons, take_at, take_all, get_or-set_same, get_or-set_other}
 use Rattle.chosen.specs.Chosen.{near_any, choose, choose_all, chosen}
 use Rattle.chosen.proofs.ChosenLaws.{choose-near, choose-far, chosen-next}
-
--- one more behind the front of a list
-pub push : {A : Type 0} (P d : List A) (n : ℕ) (v z : A) → n ≡ length P → n < length d → set (P ++ drop n d) n v ≡ (P ++ (v ∷ [])) ++ drop (n + 1) d
-push P d n v z e h = rw (add-one, drop-cons d n z, append_assoc) (set_at P (get_or d n z) (drop (suc n) d) v n (sym e))
+use Rattle.numeric.proofs.Lists.{push}
 
 module _ (near : ℕ → ℕ → Bool) where
   module _ (p b : ℕ) (ks : List ℕ) (h : b < length ks) where
@@ -69,7 +66,7 @@ module _ (near : ℕ → ℕ → Bool) where
           let e : chosen near (take (a + 1) order) ≡ ks ++ (v ∷ []) = next ∙ choose-far near ks v g in
           record {
             count = rw (e, length-append) (omega (arith, u.count));
-            front = ap (λ (o : List ℕ). set o n v) u.front ∙ push ks d n v 0 u.count l ∙ ap (λ (o : List ℕ). o ++ drop (n + 1) d) (sym e);
+            front = ap (λ (o : List ℕ). set o n v) u.front ∙ push ks d n v (sym u.count) l ∙ ap (λ (o : List ℕ). o ++ drop (n + 1) d) (sym e);
           }
 
     pub upto_all : (d : List ℕ) (a : ℕ) (out : List ℕ) (n : ℕ) → length order ≤ a → Upto d a out n

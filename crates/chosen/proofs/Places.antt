@@ -9,7 +9,7 @@ use Rattle.digits.proofs.SortedLaws.{sort-given}
 use Rattle.rowsearch.specs.Account.{All}
 use Rattle.chosen.specs.Chosen.{Each, near_any, choose, choose_all, chosen, passing}
 use Rattle.chosen.specs.Ranking.{inserted_by, ordered_by}
-use Rattle.chosen.proofs.ChosenLaws.{all_tail, all_none, all_cons}
+use Rattle.rowsearch.proofs.Account.{all_none, all_cons, all_tail}
 
 -- f p is the apex at place p
 module _ (f : ℕ → ℕ) where

@@ -11,7 +11,8 @@ use Rattle.refusal.proofs.Bools.{clash}
 use Rattle.rowsearch.specs.Account.{◌∈◌, All}
 use Rattle.chosen.specs.Chosen.{Distinct}
 use Rattle.chosen.specs.Ranking.{before, inserted_by, ordered_by, InOrder, Strict, OrderedSame, OrderedDistinct, OrderedInOrder, BeforeStrict, OrderedRanked}
-use Rattle.chosen.proofs.ChosenLaws.{all_none, all_cons, all_tail, each-imp}
+use Rattle.chosen.proofs.ChosenLaws.{each-imp}
+use Rattle.rowsearch.proofs.Account.{all_none, all_cons, all_tail}
 
 -- ---- sorting
 

@@ -1,6 +1,6 @@
 -- What distinct identities are, in terms of places.
 use mathlib.Core.Path.{◌≡◌, refl, sym, ap}
-use mathlib.Core.Bool.{Bool, true, false, not, ◌||◌}
+use mathlib.Core.Bool.{true, false, not, ◌||◌}
 use mathlib.Core.List.{List, [], ◌∷◌, map}
 use Prim.Native.Nat.{ℕ, zero, suc, ◌<◌}
 use native.Mathlib.Omega.{arith}
@@ -12,10 +12,7 @@ use Rattle.record.specs.declared.ImPeak1D.{ImPeak1D}
 use Rattle.peaklist.specs.PeakList.{nth}
 use Rattle.distinct.specs.Distinct.{is_in, distinct}
 use Rattle.distinct.specs.DistinctLaws.{DistinctTells, TellsDistinct}
-
-or-true : (a : Bool) → (a || true) ≡ true
-or-true true = refl
-or-true false = refl
+use Rattle.std.proofs.Math.Bool.{or-true}
 
 -- an identity that a place has is one of all
 is-in : (x : ℕ) (ps : List ImPeak1D) (k : ℕ) → k < length ps → x ≡ (nth ps k).id → is_in x (map (λ p. p.id) ps) ≡ true

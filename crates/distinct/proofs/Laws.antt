@@ -6,20 +6,20 @@ use mathlib.Core.List.Memᴰ.{head as here}
 use mathlib.Core.List.Memᴰ.{tail as there}
 use Prim.Native.Nat.{ℕ, zero, suc, ◌+◌, ◌-◌, ◌<◌, ◌≤◌}
 use native.Mathlib.Omega.{arith}
-use native.Mathlib.Numerals.{add-one}
-use borrow.Author.Tests.{eqb-true, eqb-false, eq-eqb, ne_eqb, ltb-true, ltb-false, leb-true, leb-false}
-use lib.Dec.{eqb, ltb, leb}
-use lib.ListN.{length, get_or, take, drop, length-map, drop_of_length-le, take-append-drop}
-use lib.Seq.{take_all, take-append-le, drop-cons, length-take-le}
-use Rattle.refusal.proofs.Bools.{clash}
+use borrow.Author.Tests.{eqb-true, eqb-false, eq-eqb, ne_eqb, ltb-true, ltb-false}
+use lib.Dec.{eqb, ltb}
+use lib.ListN.{length, get_or, take, drop, length-map, take-append-drop}
+use lib.Seq.{take_all, length-take-le}
+use Rattle.std.specs.List.{list_all, range_with_len}
+use Rattle.refusal.proofs.Bools.{clash, both}
 use Rattle.record.specs.Record.{id_at, peak_from}
 use Rattle.record.specs.declared.ImPeak1D.{ImPeak1D}
 use Rattle.peaklist.specs.PeakList.{nth, peaks_of}
 use Rattle.peaklist.proofs.PeakListLaws.{peaks-length, nth-peaks}
 use Rattle.digits.specs.Sorted.{lex_lt, inserted, sorted_by, row, up_to, Ascending}
-use Rattle.digits.proofs.SortedLaws.{sort-ascending, sort-given, sort-length, sort_sorted, sort-same, at-index, lower-first, asymmetric}
+use Rattle.digits.proofs.SortedLaws.{sort-ascending, sort-given, sort-length, sort_sorted, sort-same, lower-first, asymmetric}
 use Rattle.digits.proofs.UpTo.{upto-length, upto-lt, front-map}
-use Rattle.ordering.proofs.Laws.{Up, up-all}
+use Rattle.ordering.proofs.Laws.{Up, up-all, pairs}
 use Rattle.keys.specs.declared.KeyRule.TheVariants.{Identity}
 use Rattle.keys.specs.Keys.{key_of, width_of, key_table}
 use Rattle.keys.proofs.KeysLaws.{table-sorts}
@@ -55,15 +55,17 @@ rises-distinct words n r = tells-distinct (peaks_of words n) (λ j k a b e. same
         go false s true u = absurd (omega (arith, below k j (ltb-true k j u) a, e))
         go false s false u = omega (arith, ltb-false j k s, ltb-false k j u)
 
-pub rises-more : (words : List ℕ) (k : ℕ) → 1 ≤ k → Rises words k → id_at words (k - 1) < id_at words k → Rises words (k + 1)
-rises-more words k o r h j b = go (ltb (j + 1) k) refl
+-- where each place from 1 on passes the test
+pub rises-from : (words : List ℕ) (n : ℕ) → list_all (λ k. ltb (id_at words (k - 1)) (id_at words k)) (range_with_len 1 (n - 1)) ≡ true → Rises words n
+rises-from words n e j h =
+    let a : 1 + j - 1 ≡ j = omega arith in
+    let b : 1 + j ≡ j + 1 = omega arith in
+    rw (a, b) at (go (n - 1) 1 j e (omega arith))
   where
-    go : (t : Bool) → ltb (j + 1) k ≡ t → id_at words j < id_at words (j + 1)
-    go true t = r j (ltb-true (j + 1) k t)
-    go false t =
-        let e : k - 1 ≡ j = omega (arith, ltb-false (j + 1) k t) in
-        let f : k ≡ j + 1 = omega (arith, ltb-false (j + 1) k t) in
-        rw (← f, ← e) h
+    go : (m a i : ℕ) → list_all (λ k. ltb (id_at words (k - 1)) (id_at words k)) (range_with_len a m) ≡ true → i < m → id_at words (a + i - 1) < id_at words (a + i)
+    go zero a i e h = absurd (omega arith)
+    go (suc m) a zero e h = let z : a + 0 ≡ a = omega arith in rw z (ltb-true _ _ (both (ltb (id_at words (a - 1)) (id_at words a)) e).0)
+    go (suc m) a (suc i) e h = let z : a + suc i ≡ a + 1 + i = omega arith in rw z (go m (a + 1) i (both (ltb (id_at words (a - 1)) (id_at words a)) e).1 (omega arith))
 
 -- the identity of a place, as a key
 abbrev id_key : List ℕ → ℕ → List ℕ
@@ -86,29 +88,13 @@ rises-order words n r =
 
 -- ---- neighbours in a list that ascends
 
-pub differ-cons : (x y : ℕ) (ys : List ℕ) → (x ≡ y → ⊥) → differ_from x (y ∷ ys) ≡ differ_from y ys
-unfolding differ_from
-differ-cons x y ys h = rw (ne_eqb x y h)
-
-pub differ_same : (x y : ℕ) (ys : List ℕ) → x ≡ y → differ_from x (y ∷ ys) ≡ false
-unfolding differ_from
-differ_same x y ys h = rw (eq-eqb x y h)
-
 module _ (g : ℕ → ℕ) where
-  -- nothing
-  pub differ-none : (l : List ℕ) → length l ≡ 0 → neighbours_differ (map g l) ≡ true
-  unfolding neighbours_differ
-  differ-none [] h = refl
-  differ-none (x ∷ xs) h = absurd (omega arith)
-
-  -- one more
-  pub rest-next : (l : List ℕ) (k : ℕ) → k < length l → map g (drop k l) ≡ g (get_or l k 0) ∷ map g (drop (k + 1) l)
-  rest-next l k h = rw add-one (ap (map g) (drop-cons l k 0 h))
-
-  -- and none
-  pub rest-none : (x : ℕ) (l : List ℕ) (k : ℕ) → length l ≤ k → differ_from x (map g (drop k l)) ≡ true
-  unfolding differ_from
-  rest-none x l k h = let e : drop k l ≡ [] = drop_of_length-le l {i = k} h in rw e
+  -- each of them and the next
+  pub pairs-differ : (l : List ℕ) → list_all (λ y. not (eqb (g y.0) (g y.1))) (pairs l) ≡ neighbours_differ (map g l)
+  unfolding neighbours_differ differ_from
+  pairs-differ [] = refl
+  pairs-differ (x ∷ []) = refl
+  pairs-differ (x ∷ y ∷ ys) = ap (λ t. not (eqb (g x) (g y)) && t) (pairs-differ (y ∷ ys))
 
   -- a number below all
   lower-not-in : (x : ℕ) (ps : List ℕ) → ((q : ℕ) → Memᴰ q ps → x < g q) → is_in x (map g ps) ≡ false
@@ -212,7 +198,7 @@ ids-map : (ps : List ImPeak1D) → map (λ p. p.id) ps ≡ map (λ k. (nth ps k)
 ids-map ps =
     let n : length (map (λ p. p.id) ps) ≡ length ps = length-map ps (λ p. p.id) in
     sym (take_all (length ps) (map (λ p. p.id) ps) (omega (arith, n)))
-    ∙ front-map (map (λ p. p.id) ps) (λ k. (nth ps k).id) (length ps) (omega (arith, n)) (get-id ps)
+    ∙ front-map (map (λ p. p.id) ps) 0 (λ k. (nth ps k).id) (length ps) (omega (arith, n)) (get-id ps)
 
 get-word : (ps : List ImPeak1D) (rest : List ℕ) (k : ℕ) → k < length ps → get_or (key_table Identity ps ++ rest) k 0 ≡ (nth ps k).id
 unfolding key_table key_of
@@ -230,8 +216,8 @@ module _ (ps : List ImPeak1D) (rest : List ℕ) where
   in_order = sorted_by (row words 1) (up_to (length ps))
 
   -- each place of the order is one of the peaks
-  pub order_below : (k : ℕ) → k < length in_order → get_or in_order k 0 < length ps
-  order_below k h = upto-lt (length ps) (get_or in_order k 0) (sort-given (row words 1) (up_to (length ps)) (get_or in_order k 0) (at-index in_order k h))
+  pub order_below : (p : ℕ) → Memᴰ p in_order → p < length ps
+  order_below p m = upto-lt (length ps) p (sort-given (row words 1) (up_to (length ps)) p m)
 
   -- neighbours in order differ where identities are distinct
   pub order-tells : neighbours_differ (map (λ p. get_or words p 0) in_order) ≡ distinct_ids ps
@@ -251,7 +237,7 @@ module _ (ps : List ImPeak1D) (rest : List ℕ) where
 -- what holds where the identities of n peaks of a list of words are sorted
 pub record Found (words : List ℕ) (n : ℕ) (ids order : List ℕ) : Type 0 where
   pub in_order : order ≡ by_identity (peaks_of words n)
-  pub below : (k : ℕ) → k < length order → get_or order k 0 < n
+  pub below : (p : ℕ) → Memᴰ p order → p < n
   pub tells : neighbours_differ (map (λ p. get_or ids p 0) order) ≡ distinct_ids (peaks_of words n)
 
 pub found : (words : List ℕ) (n : ℕ) (ids rest order : List ℕ) → ids ≡ key_table Identity (peaks_of words n) ++ rest → order ≡ sorted_by (row ids 1) (up_to n) → Found words n ids order
@@ -261,21 +247,11 @@ found words n ids rest order e o =
     let sorted : order ≡ in_order ps rest = o ∙ rw (e, peaks-length words n) in
     record {
       in_order = sorted ∙ table-sorts Identity ps rest;
-      below = λ k l. rw (← peaks-length words n, sorted) (order_below ps rest k (rw sorted at l));
+      below = λ p m. rw (← peaks-length words n) (order_below ps rest p (rw sorted at m));
       tells = rw (sorted, e) (order-tells ps rest);
     }
 
 -- ---- the first places
-
--- the first of the places that count up
-pub upto-front : (n m : ℕ) → m ≤ n → take m (up_to n) ≡ up_to m
-unfolding up_to
-upto-front zero m h = let e : m ≡ 0 = omega arith in rw e
-upto-front (suc n) m h = go (leb m n) refl (upto-front n m)
-  where
-    go : (t : Bool) → leb m n ≡ t → (m ≤ n → take m (up_to n) ≡ up_to m) → take m (up_to n ++ (n ∷ [])) ≡ up_to m
-    go true t front = take-append-le m (up_to n) (n ∷ []) (omega (arith, upto-length n, leb-true m n t)) ∙ front (leb-true m n t)
-    go false t front = let e : m ≡ suc n = omega (arith, leb-false m n t) in rw e (take_all (suc n) (up_to (suc n)) (omega (arith, upto-length (suc n))))
 
 -- all places put to the front of a list, or what it held left there
 pub put_front : (r : Bool) (all order last : List ℕ) (n : ℕ) → n ≤ length order → length all ≡ n → last ≡ cond r (take (length (take n order)) all) (take n order)

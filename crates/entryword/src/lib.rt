@@ -15,6 +15,6 @@ pub fn word_of(answer: Result<usize, Refusal>) -> u64
 {
     match answer {
         Ok(count) => count as u64 * 64,
-        Err(refusal) => refusal.number() as u64,
+        Err(refusal) => u64::from(refusal.number()),
     }
 }

@@ -5,21 +5,20 @@ use mathlib.Core.List.{List, [], ◌∷◌, ◌++◌}
 use mathlib.Core.Option.{Option, none, some}
 use Prim.Native.Nat.{ℕ, ◌≤◌, ◌<◌, ◌+◌, ◌*◌, ◌/◌, ◌%◌, min}
 use native.Mathlib.Omega.{arith}
-use borrow.Author.Tests.{eq-eqb, eqb-true, leb-true, leb-false, not-false}
+use borrow.Author.Tests.{eq-eqb, eqb-true, leb-true, leb-false}
 use lib.Dec.{leb, eqb}
 use lib.ListN.{length, take, drop}
 use lib.Seq.{take_all, length-take-le}
 use lib.Ieee.{Float}
-use Rattle.refusal.specs.Refusal.{first_of}
 use Rattle.refusal.specs.Answers.{answer_by}
 use Rattle.refusal.proofs.Bools.{both, all4}
 use Rattle.limits.specs.Limits.{max_reading, max_list}
-use Rattle.numeric.proofs.Laws.{and-true}
 use Rattle.smoothing.specs.Smoothing.{sound_weights}
 use Rattle.smoothing.proofs.Laws.{sound-count}
 use Rattle.record.specs.Record.{size, peak_at, all_sound}
 use Rattle.tof.specs.Tof.{sound_ends, agreeing}
-use Rattle.frameindex.specs.FrameIndex.{agreeing as index_agrees, seen_in}
+use Rattle.frameindex.specs.IndexNumber.{index_number}
+use Rattle.frameindex.proofs.IndexNumberLaws.{accepted}
 use Rattle.expandone.specs.Steps.{most}
 use Rattle.rtparams.specs.declared.RtExpandParams.{RtExpandParams}
 use Rattle.rtrecord.specs.RtRecord.{rt_size}
@@ -27,11 +26,11 @@ use Rattle.rtrecord.specs.declared.RtPeak1D.{RtPeak1D}
 use Rattle.expandtrace.specs.FallbackPeaks.{peak_words}
 use Rattle.expandpeak.specs.Expanded.{Run, expanded}
 use Rattle.expandmany.specs.Many.{many_of, sum_to, weights_at, joined_to}
-use Rattle.expandnumbers.specs.ExpandNumber.{expand_checks, paired_axes, sum_of, all_weights, sound_values, rising_axes, enough_room, enough_scratch}
+use Rattle.expandnumbers.specs.ExpandNumber.{paired_axes, sum_of, all_weights, sound_values, rising_axes, enough_room, enough_scratch}
 use Rattle.refusal.specs.declared.Refusal.{Refusal}
 use Rattle.std.specs.Prelude.{Result}
-use Rattle.expand.proofs.CallLaws.{none-for}
 use Rattle.expand.specs.ExpandCall.{Lent, many_asks, many_number, ManyAnswered, alone, one_number, peaks_of, OneAnswered}
+use Rattle.std.proofs.Math.Bool.{and-true}
 
 -- ---- the first 258 weights tell whether all are sound
 unsound : (l : List Float) → 257 < length l → sound_weights l ≡ false
@@ -63,21 +62,21 @@ module _ (run : Run) (e : RtExpandParams) (peak : List ℕ) (first : ℕ) (was :
   by_weights summed weighed =
       let n = length peak / size in
       let f = length run.ids in
-      first_of (expand_checks (seen_in max_reading run.index) (record {
+      index_number max_reading run.index (record {
         lengths = eqb (length peak % size) 0 && eqb 1 n && summed && paired_axes (length run.index.starts) f (length run.times);
         sizes = leb n max_list;
         values = sound_values e run.scale.tof_step run.times first n (most f);
-        tofs = sound_ends run.scale;
+        axes = sound_ends run.scale;
         weights = weighed;
-        axes = rising_axes run.ids run.times;
+        order = rising_axes run.ids run.times;
         records = all_sound peak n;
         room = enough_room n (most f) (length was.out) && leb n 1;
         scratch = enough_scratch f (length was.raw) (length was.smooth) (length was.order);
         scale = agreeing run.scale;
-      }))
+      })
 
   by_weights_lem : (ws : List Float) → one_number run e peak ws first was ≡ by_weights true (sound_weights ws)
-  unfolding many_number many_asks sum_of all_weights by_weights
+  unfolding many_asks sum_of all_weights by_weights
   by_weights_lem ws =
       let own : eqb (length ws + 0) (length ws) ≡ true = eq-eqb (length ws + 0) (length ws) (omega arith) in
       let all : (sound_weights (take (length ws) ws) && true) ≡ sound_weights ws = and-true (sound_weights (take (length ws) ws)) ∙ ap sound_weights (take_all (length ws) ws (omega arith)) in
@@ -88,16 +87,16 @@ module _ (run : Run) (e : RtExpandParams) (peak : List ℕ) (first : ℕ) (was :
 
   -- where it is 0 there is one record, and the weights are sound
   pub one-peak : (ws : List Float) → one_number run e peak ws first was ≡ 0 → length peak / size ≡ 1
-  unfolding many_number many_asks seen_in
+  unfolding many_asks
   one-peak ws z =
-      let a = both (index_agrees run.index) (not-false _ (none-for (seen_in max_reading run.index) (many_asks (alone run e peak ws first) was 1) 1 z)) in
-      sym (eqb-true 1 (length peak / size) (all4 (eqb (length peak % size) 0) a.1).1)
+      let a = accepted max_reading run.index (many_asks (alone run e peak ws first) was 1) z in
+      sym (eqb-true 1 (length peak / size) (all4 (eqb (length peak % size) 0) a.lengths).1)
 
   few-weights : (ws : List Float) → one_number run e peak ws first was ≡ 0 → length ws ≤ 257
-  unfolding many_number many_asks seen_in all_weights
+  unfolding many_asks all_weights
   few-weights ws z =
-      let a = both (sound_weights (take (length ws) ws)) (not-false _ (none-for (seen_in max_reading run.index) (many_asks (alone run e peak ws first) was 1) 6 z)) in
-      sound-count ws (ap sound_weights (sym (take_all (length ws) ws (omega arith))) ∙ a.0)
+      let a = accepted max_reading run.index (many_asks (alone run e peak ws first) was 1) z in
+      sound-count ws (ap sound_weights (sym (take_all (length ws) ws (omega arith))) ∙ (both (sound_weights (take (length ws) ws)) a.weights).0)
 
 -- ---- the peaks
 joined-alone : (run : Run) (e : RtExpandParams) (peak : List ℕ) (ws : List Float) (first : ℕ) → joined_to (alone run e peak ws first) 1 ≡ peaks_of run e peak ws first

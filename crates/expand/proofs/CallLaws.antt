@@ -1,27 +1,26 @@
 -- What holds of a call of expansion to which no number applies.
 use mathlib.Core.Path.{◌≡◌, refl, sym, ap, ◌∙◌, subst}
-use mathlib.Core.Bool.{Bool, true, false, not, ◌||◌}
+use mathlib.Core.Bool.{Bool, true, false, ◌||◌}
 use mathlib.Core.List.{List, [], ◌∷◌, ◌++◌}
 use Prim.Native.Nat.{ℕ, zero, suc, ◌≤◌, ◌<◌, ◌+◌, ◌-◌, ◌*◌, ◌/◌, ◌%◌}
 use native.Mathlib.Nat.{le-div_iff_mul-le, le_of_eq}
 use native.Mathlib.Omega.{arith}
-use borrow.Author.Tests.{not-false, not-true, eqb-true, eqb-false, leb-true, ltb-false}
+use borrow.Author.Tests.{not-false, eqb-true, eqb-false, leb-true, ltb-false}
 use lib.Dec.{leb, ltb, eqb, lit<, lit≤}
 use lib.ListN.{length, get_or, take, drop}
 use lib.Seq.{drop-drop}
 use lib.Ieee.{Float}
-use Rattle.refusal.specs.Refusal.{first_of, ascending_from}
-use Rattle.refusal.proofs.RefusalLaws.{none-by, applies_for}
 use Rattle.refusal.proofs.Bools.{clash, both, all3, all4, neither}
-use Rattle.limits.specs.Limits.{max_reading, max_frames, max_points, max_count, max_seconds, max_scan, max_list, identities}
+use Rattle.limits.specs.Limits.{max_reading, max_frames, max_points, max_count, max_seconds, identities}
 use Rattle.numeric.specs.Numeric.{all_in_range}
 use Rattle.numeric.proofs.Patterns.{all-wider}
 use Rattle.smoothing.specs.Smoothing.{sound_weights}
-use Rattle.params.specs.Params.{rising, all_up_to}
+use Rattle.params.specs.Params.{rising}
 use Rattle.record.specs.Record.{size, peak_at, sound, all_sound}
-use Rattle.tof.specs.Tof.{sound_step, sound_ends, agreeing}
-use Rattle.frameindex.specs.declared.inner.Seen.{Seen}
-use Rattle.frameindex.specs.FrameIndex.{Index, agreeing as index_agrees, too_large, frames, points, sound_index, seen_in}
+use Rattle.tof.specs.Tof.{sound_step}
+use Rattle.frameindex.specs.FrameIndex.{Index, frames, points, seen_in}
+use Rattle.frameindex.specs.IndexNumber.{Accepted}
+use Rattle.frameindex.proofs.IndexNumberLaws.{none-for, accepted, checked}
 use Rattle.rtparams.specs.Expand.{sound_expand}
 use Rattle.rtparams.specs.declared.RtExpandParams.{RtExpandParams}
 use Rattle.rtrecord.specs.RtRecord.{rt_size}
@@ -30,22 +29,13 @@ use Rattle.expandone.specs.Steps.{most, max_summed, Followed}
 use Rattle.expandtrace.specs.FallbackPeaks.{peak_words}
 use Rattle.expandmany.specs.Many.{Many, sum_to, weights_at, joined_to}
 use Rattle.expandmany.specs.Steps.{Ready, Done}
-use Rattle.expandnumbers.specs.declared.inner.Asked.{Asked}
-use Rattle.expandnumbers.specs.ExpandNumber.{expand_checks, sum_of, sums_to, all_weights, sound_values, rising_axes, enough_room}
+use Rattle.expandnumbers.specs.ExpandNumber.{sum_of, sums_to, all_weights, sound_values, rising_axes, enough_room}
 use Rattle.refusal.specs.declared.Refusal.{Refusal}
 use Rattle.refusal.specs.Numbered.{number_of}
 use Rattle.refusal.proofs.NumberedLaws.{says-ok, says-err, number_of-positive}
 use Rattle.std.specs.Prelude.{Ok, Err}
 use Rattle.expand.specs.ExpandCall.{Lent, frames_of, peaks_in, many_asks, many_number, PastKept, ManyAnswered}
 use Rattle.expand.specs.Steps.{Lendable}
-
--- ---- where the number is 0, a check with a number does not apply
-pub ascending : (s : Seen) (a : Asked) → ascending_from 0 (expand_checks s a) ≡ true
-unfolding ascending_from
-ascending s a = refl
-
-pub none-for : (s : Seen) (a : Asked) (n : ℕ) → first_of (expand_checks s a) ≡ 0 → applies_for n (expand_checks s a) ≡ false
-none-for s a n z = none-by n (expand_checks s a) refl (ascending s a) z
 
 -- ---- lengths and weights
 sum-shift : (k : ℕ) (ks : List ℕ) (i : ℕ) → sum_to (k ∷ ks) (suc i) ≡ k + sum_to ks i
@@ -107,57 +97,56 @@ module _ (m : Many) (was : Lent) (counts : ℕ) (none : many_number m was counts
   abbrev f : ℕ
   f = frames_of m.run
 
-  met : (k : ℕ) → applies_for k (expand_checks (seen_in max_reading ix) (many_asks m was counts)) ≡ false
-  unfolding many_number
-  met k = none-for (seen_in max_reading ix) (many_asks m was counts) k none
+  met : Accepted ix (many_asks m was counts)
+  met = accepted max_reading ix (many_asks m was counts) none
 
-  lengths-met : (index_agrees ix ≡ true) × (eqb (length m.list % size) 0 ≡ true) × (eqb (length m.lengths) n ≡ true) × (sums_to m.lengths (length m.weights) ≡ true)
+  in_range : all_in_range max_reading ix.readings ≡ true
+  unfolding seen_in
+  in_range = not-false _ (none-for max_reading ix (many_asks m was counts) 3 none)
+
+  lengths-met : (eqb (length m.list % size) 0 ≡ true) × (eqb (length m.lengths) n ≡ true) × (sums_to m.lengths (length m.weights) ≡ true)
       × (eqb (length ix.starts) (f + 1) ≡ true) × (eqb (length m.run.times) f ≡ true)
-  unfolding seen_in many_asks
+  unfolding many_asks
   lengths-met =
-      let a = both (index_agrees ix) (not-false _ (met 1)) in
-      let b = all4 (eqb (length m.list % size) 0) a.1 in
+      let b = all4 (eqb (length m.list % size) 0) met.lengths in
       let c = both (eqb (length ix.starts) (f + 1)) b.3 in
-      (a.0, b.0, b.1, b.2, c.0, c.1)
-
-  index-met : (too_large ix ≡ false) × (leb n max_list ≡ true) × (all_in_range max_reading ix.readings ≡ true) × (sound_ends m.run.scale ≡ true) × (agreeing m.run.scale ≡ true) × (sound_index ix ≡ true)
-  unfolding seen_in many_asks
-  index-met =
-      let a = both (not (too_large ix)) (not-false _ (met 2)) in
-      let c = both (all_up_to max_scan ix.scans) (not-false _ (met 5)) in
-      (not-true (too_large ix) a.0, a.1, not-false _ (met 3), c.1, not-false _ (met 22), not-false _ (met 23))
+      (b.0, b.1, b.2, c.0, c.1)
 
   values-met : (sound_expand m.params ≡ true) × (sound_step m.run.scale.tof_step ≡ true) × (all_in_range max_seconds m.run.times ≡ true) × (leb (n * most f) (identities - m.first) ≡ true)
-  unfolding seen_in many_asks sound_values
-  values-met = all4 (sound_expand m.params) (not-false _ (met 4))
+  unfolding many_asks sound_values
+  values-met = all4 (sound_expand m.params) met.values
 
   others-met : (all_weights m.lengths m.weights ≡ true) × (rising m.run.ids ≡ true) × (all_sound m.list n ≡ true) × (enough_room n (most f) (length was.out) ≡ true) × (leb n counts ≡ true)
       × (leb f (length was.raw) ≡ true) × (leb f (length was.smooth) ≡ true) × (leb f (length was.order) ≡ true)
-  unfolding seen_in many_asks rising_axes
+  unfolding many_asks rising_axes
   others-met =
-      let r = both (enough_room n (most f) (length was.out)) (not-false _ (met 20)) in
-      let s = all3 (leb f (length was.raw)) (not-false _ (met 21)) in
-      (not-false _ (met 6), (both (rising m.run.ids) (not-false _ (met 7))).0, not-false _ (met 9), r.0, r.1, s.0, s.1, s.2)
+      let r = both (enough_room n (most f) (length was.out)) met.room in
+      let s = all3 (leb f (length was.raw)) met.scratch in
+      (met.weights, (both (rising m.run.ids) met.order).0, met.records, r.0, r.1, s.0, s.1, s.2)
+
+  -- no more frames than there may be
+  few : (frames ix ≤ max_frames) × (points ix ≤ max_points)
+  few =
+      let big = neither (ltb max_frames (frames ix) || ltb max_points (points ix)) met.small in
+      let n = neither (ltb max_frames (frames ix)) big.0 in
+      (ltb-false max_frames (frames ix) n.0, ltb-false max_points (points ix) n.1)
+
+  pub short : f ≤ max_frames
+  short = let most = few.0 in let starts = eqb-true (length ix.starts) (f + 1) lengths-met.3 in omega arith
 
   pub followed : Followed m.run m.params
+  unfolding many_asks
   followed =
-      let l = lengths-met in
-      let i = index-met in
       let v = values-met in
-      let a = all3 (ltb 0 (length ix.starts)) l.0 in
-      let big = neither (ltb max_frames (frames ix) || ltb max_points (points ix)) i.0 in
-      let few = neither (ltb max_frames (frames ix)) big.0 in
-      let starts = eqb-true (length ix.starts) (f + 1) l.4 in
-      let short = ltb-false max_frames (frames ix) few.0 in
       record {
-        index = record { sound = i.5; offsets = eqb-true _ _ a.1; readings = sym (eqb-true _ _ a.2) };
-        few-points = ltb-false max_points (points ix) few.1;
-        readings = all-wider max_reading max_summed ix.readings (lit≤ tt) i.2;
-        scale = record { step = v.1; ends = i.3; agree = i.4 };
+        index = checked ix (many_asks m was counts) met;
+        few-points = few.1;
+        readings = all-wider max_reading max_summed ix.readings (lit≤ tt) in_range;
+        scale = record { step = v.1; ends = met.axes; agree = met.scale };
         pad = pad-is m.params v.0;
-        frames = starts;
-        axis = eqb-true _ _ l.5;
-        short = omega arith;
+        frames = eqb-true (length ix.starts) (f + 1) lengths-met.3;
+        axis = eqb-true _ _ lengths-met.4;
+        short = omega (arith, short);
         rise = others-met.1;
       }
 
@@ -165,20 +154,20 @@ module _ (m : Many) (was : Lent) (counts : ℕ) (none : many_number m was counts
   pub weights-sound : (k : ℕ) → k < n → sound_weights (weights_at m k) ≡ true
   unfolding weights_at
   weights-sound k h =
-      let as-many : length m.lengths ≡ length m.list / size = eqb-true (length m.lengths) n lengths-met.2 in
+      let as-many : length m.lengths ≡ length m.list / size = eqb-true (length m.lengths) n lengths-met.1 in
       each-weights m.lengths m.weights k others-met.0 (omega (arith, as-many, h))
 
   -- a length a peak
   pub as-many : length m.lengths ≡ peaks_in m
-  as-many = eqb-true (length m.lengths) n lengths-met.2
+  as-many = eqb-true (length m.lengths) n lengths-met.1
 
   pub ready : m.first < 4294967296 → Ready m n (length was.out) counts
   ready named =
       let l = lengths-met in
       let v = values-met in
       let o = others-met in
-      let whole : length m.list % size ≡ 0 = eqb-true (length m.list % size) 0 l.1 in
-      let sums = eqb-true (sum_of m.lengths) (length m.weights) l.3 in
+      let whole : length m.list % size ≡ 0 = eqb-true (length m.list % size) 0 l.0 in
+      let sums = eqb-true (sum_of m.lengths) (length m.weights) l.2 in
       let fit : n * most f ≤ identities - m.first = leb-true (n * most f) (identities - m.first) v.3 in
       record {
         run = followed;
@@ -200,16 +189,6 @@ module _ (m : Many) (was : Lent) (counts : ℕ) (none : many_number m was counts
   lendable =
       let o = others-met in
       record { raw-long = leb-true _ _ o.5; smooth-long = leb-true _ _ o.6; order-long = leb-true _ _ o.7 }
-
-  pub short : f ≤ max_frames
-  short =
-      let l = lengths-met in
-      let i = index-met in
-      let big = neither (ltb max_frames (frames ix) || ltb max_points (points ix)) i.0 in
-      let few = neither (ltb max_frames (frames ix)) big.0 in
-      let starts = eqb-true (length ix.starts) (f + 1) l.4 in
-      let most = ltb-false max_frames (frames ix) few.0 in
-      omega arith
 
 -- ---- the answer
 module _ (m : Many) (was is : Lent) (counts₀ counts : List ℕ) where

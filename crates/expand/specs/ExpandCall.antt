@@ -1,11 +1,11 @@
 -- Expansion's second call: which number it is answered with, and what is left of it.
 use Rattle.std.specs.Prelude.{Result, ◌≡◌, ◌&&◌, List, [], ◌∷◌, ◌++◌, ℕ, ◌*◌, ◌/◌, ◌%◌, leb, eqb, length, drop, Float}
-use Rattle.refusal.specs.Refusal.{first_of}
 use Rattle.refusal.specs.Answers.{answer_by}
 use Rattle.limits.specs.Limits.{max_reading, max_list}
 use Rattle.record.specs.Record.{size, peak_at, all_sound}
 use Rattle.tof.specs.Tof.{sound_ends, agreeing}
-use Rattle.frameindex.specs.FrameIndex.{seen_in}
+use Rattle.frameindex.specs.declared.numbers.Further.{Further}
+use Rattle.frameindex.specs.IndexNumber.{index_number}
 use Rattle.rtparams.specs.declared.RtExpandParams.{RtExpandParams}
 use Rattle.rtrecord.specs.RtRecord.{rt_size}
 use Rattle.rtrecord.specs.declared.RtPeak1D.{RtPeak1D}
@@ -13,8 +13,7 @@ use Rattle.expandtrace.specs.FallbackPeaks.{peak_words}
 use Rattle.expandpeak.specs.Expanded.{Run, expanded}
 use Rattle.expandone.specs.Steps.{most}
 use Rattle.expandmany.specs.Many.{Many, many_of, joined_to, counts_to}
-use Rattle.expandnumbers.specs.declared.inner.Asked.{Asked}
-use Rattle.expandnumbers.specs.ExpandNumber.{expand_checks, paired_axes, sums_to, all_weights, sound_values, rising_axes, enough_room, enough_scratch}
+use Rattle.expandnumbers.specs.ExpandNumber.{paired_axes, sums_to, all_weights, sound_values, rising_axes, enough_room, enough_scratch}
 use Rattle.refusal.specs.Numbered.{says}
 use Rattle.refusal.specs.declared.Refusal.{Refusal}
 
@@ -46,7 +45,7 @@ peaks_in m = length m.list / size
 
 -- What a call is asked besides its index, with the lent lists and the length of the column of counts. 1: whole records, a length a peak,
 -- lengths that add up to the weights, and a frame number and a time a frame. 2: at most 65,536 peaks.
-unfoldable pub many_asks : Many → Lent → ℕ → Asked
+unfoldable pub many_asks : Many → Lent → ℕ → Further
 many_asks m lent counts =
     let n = peaks_in m in
     let run = m.run in
@@ -55,9 +54,9 @@ many_asks m lent counts =
       lengths = eqb (length m.list % size) 0 && eqb (length m.lengths) n && sums_to m.lengths (length m.weights) && paired_axes (length run.index.starts) f (length run.times);
       sizes = leb n max_list;
       values = sound_values m.params run.scale.tof_step run.times m.first n (most f);
-      tofs = sound_ends run.scale;
+      axes = sound_ends run.scale;
       weights = all_weights m.lengths m.weights;
-      axes = rising_axes run.ids run.times;
+      order = rising_axes run.ids run.times;
       records = all_sound m.list n;
       room = enough_room n (most f) (length lent.out) && leb n counts;
       scratch = enough_scratch f (length lent.raw) (length lent.smooth) (length lent.order);
@@ -65,8 +64,8 @@ many_asks m lent counts =
     }
 
 -- the number, for readings up to 2^32
-unfoldable pub many_number : Many → Lent → ℕ → ℕ
-many_number m lent counts = first_of (expand_checks (seen_in max_reading m.run.index) (many_asks m lent counts))
+abbrev pub many_number : Many → Lent → ℕ → ℕ
+many_number m lent counts = index_number max_reading m.run.index (many_asks m lent counts)
 
 -- What the lists hold after the call was accepted: the words of the joined retention peaks at the front of `out`, a count a mobility peak
 -- at the front of the column, and past that what they held.

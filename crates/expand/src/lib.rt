@@ -14,7 +14,6 @@ ghost use Rattle.expand.specs.ExpandCall.{ManyAnswered, OneAnswered};
 
 use expandmany::peaks::PeakList;
 use expandone::run::{FollowedRun, Run};
-use frameindex::CheckedIndex;
 use lent::Lent;
 use record::PeakId;
 use refusal::Refusal;
@@ -32,8 +31,7 @@ pub fn expand_many_im_peaks_along_rt(
     ensures answer { ManyAnswered (many_lent run.now e peaks.entry) (lent_in lent.old) (lent_in lent.new) counts.old counts.new result }
     ensures same { SameLists lent.old lent.new }
 {
-    numbers::check(run, e, &peaks, lent, counts.len())?;
-    let index = CheckedIndex::of(run.index);
+    let index = numbers::check(run, e, &peaks, lent, counts.len())?;
     let followed = FollowedRun {
         index: &index,
         ids: run.ids,

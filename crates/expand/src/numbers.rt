@@ -1,5 +1,5 @@
 // The numbers of expansion's second call.
-ghost use Rattle.std.specs.Prelude.{◌≡◌, ◌&&◌, ◌/◌, ◌%◌, eqb, length};
+ghost use Rattle.std.specs.Prelude.{◌≡◌, ◌&&◌, ◌/◌, ◌%◌, eqb, length, IfOk};
 ghost use Rattle.refusal.specs.Numbered.{number_in};
 ghost use Rattle.record.specs.Record.{size, all_sound};
 ghost use Rattle.expandnumbers.specs.ExpandNumber.{sums_to, paired_axes};
@@ -9,8 +9,9 @@ ghost use Rattle.expand.specs.Lists.{lent_in};
 
 use super::lent::Lent;
 use expandmany::peaks::PeakList;
-use expandnumbers::inner::Asked;
 use expandone::run::Run;
+use frameindex::CheckedIndex;
+use frameindex::numbers::Further;
 use record::ImPeak1D;
 use refusal::Refusal;
 use rtparams::RtExpandParams;
@@ -40,7 +41,7 @@ fn many_asks(
     peaks: &PeakList<'_>,
     lent: &Lent<'_>,
     counts: usize,
-) -> Asked
+) -> Further
     ensures { result ≡ many_asks (many_lent run.now e peaks.now) (lent_in lent.now) counts }
 {
     let n = peaks.list.len() / ImPeak1D::WORDS;
@@ -48,7 +49,7 @@ fn many_asks(
     let most = expandnumbers::inner::most_of(f);
     let index = run.index;
     let scale = run.scale;
-    Asked {
+    Further {
         lengths: same_lengths(run, index.starts.len(), peaks),
         sizes: n <= limits::MAX_LIST,
         values: expandnumbers::inner::sound_values(
@@ -59,9 +60,9 @@ fn many_asks(
             n,
             most,
         ),
-        tofs: tof::inner::sound_ends(scale),
+        axes: tof::inner::sound_ends(scale),
         weights: expandnumbers::inner::all_weights(peaks.lengths, peaks.weights),
-        axes: expandnumbers::inner::rising_axes(run.ids, run.times),
+        order: expandnumbers::inner::rising_axes(run.ids, run.times),
         records: sound_records(peaks.list),
         room: expandnumbers::inner::enough_room(n, most, lent.out.len()) & (n <= counts),
         scratch: expandnumbers::inner::enough_scratch(
@@ -74,19 +75,16 @@ fn many_asks(
     }
 }
 
-// Refuses with the lowest number that applies.
-#[tactic(auto, unfolding(crate::specs::ExpandCall::many_number))]
-pub fn check(
-    run: &Run<'_>,
+// The index as a checked one, or the lowest number that applies.
+pub fn check<'a>(
+    run: &Run<'a>,
     e: RtExpandParams,
     peaks: &PeakList<'_>,
     lent: &Lent<'_>,
     counts: usize,
-) -> Result<(), Refusal>
-    ensures { number_in result ≡ many_number (many_lent run.now e peaks.now) (lent_in lent.now) counts }
+) -> Result<CheckedIndex<'a>, Refusal>
+    ensures number { number_in result ≡ many_number (many_lent run.now e peaks.now) (lent_in lent.now) counts }
+    ensures same { IfOk result (λ ix. ix ≡ run.now.index.now) }
 {
-    let index = run.index;
-    let seen = index.see(limits::MAX_READING);
-    let asked = many_asks(run, e, peaks, lent, counts);
-    expandnumbers::inner::check(seen, asked)
+    run.index.check(limits::MAX_READING, many_asks(run, e, peaks, lent, counts))
 }

@@ -10,12 +10,12 @@ use expandmany::peaks::PeakList;
 use expandone::run::FollowedRun;
 use expandone::scratch::RunScratch;
 use expandpeak::scratch::TraceScratch;
-use rowsearch::scratch::Scratch;
+use rowsearch::scratch::Arrays;
 
 // Expands all mobility peaks of a list, with room for a run of N frames. It is no part of its caller, so that shorter runs do not pay for
 // the lists of longer ones.
 #[inline(never)]
-fn expand_in<const N: usize, const B: usize, const F: usize>(
+fn expand_in<const N: usize, const B: usize>(
     run: &FollowedRun<'_>,
     peaks: &PeakList<'_>,
     out: &mut [u32],
@@ -26,23 +26,14 @@ fn expand_in<const N: usize, const B: usize, const F: usize>(
 ) -> usize
     requires run { Ready (many_in run.now peaks.now) (length peaks.now.lengths.now) (length out.old) (length counts.old)
         × Lendable (length run.now.ids.now) (length raw.old) (length smooth.old) (length order.old) × (length run.now.ids.now ≤ N) }
-    requires sizes { Sizes N B F }
+    requires sizes { Sizes N B }
     ensures { Done (many_in run.now peaks.now) (length peaks.now.lengths.now) out.old counts.old result out.new counts.new }
 {
-    // Arrays and structs of them: a function that lends them to a closure would have more lines.
-    let mut turns = [0u32; N];
-    let mut bases = [0u32; B];
-    let mut found = [0u32; F];
+    let mut lists = Arrays::<N, B>::new();
     let mut near = [0u32; N];
-    let search = Scratch {
-        samples: run.ids.len(),
-        turns: &mut turns,
-        bases: &mut bases,
-        found: &mut found,
-    };
     let trace = TraceScratch {
         smooth,
-        search,
+        search: lists.lend(run.ids.len()),
         order,
     };
     let mut scratch = RunScratch {
@@ -69,7 +60,7 @@ pub fn expand_sized(
     ensures { Done (many_in run.now peaks.now) (length peaks.now.lengths.now) out.old counts.old result out.new counts.new }
 {
     if run.ids.len() <= 1024 {
-        return expand_in::<1024, 800, 4096>(run, peaks, out, counts, raw, smooth, order);
+        return expand_in::<1024, 800>(run, peaks, out, counts, raw, smooth, order);
     }
-    expand_in::<16384, 8480, 65536>(run, peaks, out, counts, raw, smooth, order)
+    expand_in::<16384, 8480>(run, peaks, out, counts, raw, smooth, order)
 }

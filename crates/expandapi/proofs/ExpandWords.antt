@@ -7,6 +7,7 @@ use lib.ListN.{length, drop, length-append, length-drop}
 use lib.Ieee.{Float}
 use Rattle.limits.specs.Limits.{max_reading}
 use Rattle.frameindex.specs.FrameIndex.{seen_in}
+use Rattle.frameindex.specs.IndexNumber.{index_checks, index_number}
 use Rattle.rtrecord.specs.RtRecord.{rt_size}
 use Rattle.rtrecord.specs.declared.RtPeak1D.{RtPeak1D}
 use Rattle.expandtrace.specs.FallbackPeaks.{peak_words}
@@ -14,7 +15,6 @@ use Rattle.expandtrace.proofs.Peaks.{words-length}
 use Rattle.rtparams.specs.declared.RtExpandParams.{RtExpandParams}
 use Rattle.expandpeak.specs.Expanded.{Run}
 use Rattle.expandmany.specs.Many.{Many, joined_to}
-use Rattle.expandnumbers.specs.ExpandNumber.{expand_checks}
 use Rattle.std.specs.Prelude.{Result}
 use Rattle.refusal.specs.declared.Refusal.{Refusal}
 use Rattle.refusal.specs.Numbered.{says}
@@ -25,8 +25,8 @@ use Rattle.entryword.proofs.Words.{below, first_below, word_fits, word-told}
 use Rattle.expandapi.specs.Expansion.{many_count, ManyTold, ManyWordTold, one_count, OneTold, OneWordTold}
 
 number_small : (m : Many) (was : Lent) (counts : ℕ) → many_number m was counts < 64
-unfolding many_number below
-number_small m was counts = first_below 64 (expand_checks (seen_in max_reading m.run.index) (many_asks m was counts)) refl
+unfolding index_number below
+number_small m was counts = first_below 64 (index_checks (seen_in max_reading m.run.index) (many_asks m was counts)) refl
 
 -- a list has no more peaks than fit into it
 few : (ps : List RtPeak1D) (was is : List ℕ) → is ≡ peak_words ps ++ drop (length ps * rt_size) was → length is ≡ length was → length ps * rt_size ≤ length was

@@ -1,4 +1,4 @@
-// The retention peaks of many mobility peaks as a C function on numbers and lists.
+// The retention peaks of many mobility peaks as a C function on numbers and lists. Each list is an argument of its own.
 ghost use Rattle.std.specs.Prelude.{◌≡◌};
 ghost use Rattle.frameindex.specs.FrameIndex.{index_of};
 ghost use Rattle.expandpeak.specs.Expanded.{run_of};

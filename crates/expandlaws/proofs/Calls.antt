@@ -30,8 +30,8 @@ use Rattle.expand.specs.ExpandCall.{peaks_in, many_number, alone, one_number, pe
 use Rattle.expand.proofs.CallLaws.{records-sound, weights-sound, followed, short}
 use Rattle.expand.proofs.AloneLaws.{one-peak}
 use Rattle.expandlaws.specs.ExpandAccount.{OneAccounted, ManyAccounted}
-use Rattle.expandlaws.proofs.Words.{map_get}
 use Rattle.expandlaws.proofs.ExpandAccount.{peak-accounted}
+use Rattle.std.proofs.lemmas.List.{get_or-map}
 
 -- ---- the answer
 
@@ -78,7 +78,7 @@ module _ (m : Many) where
   column-at : (n q : ℕ) (rest : List ℕ) → q < n → get_or (counts_to m n ++ rest) q 0 ≡ count_of m q
   column-at n q rest h =
       get_or-append (counts_to m n) rest 0 q (omega (arith, column-length n, h))
-      ∙ map_get (count_of m) (up_to n) q 0 0 (omega (arith, upto-length n, h)) ∙ ap (count_of m) (upto-get n q h)
+      ∙ get_or-map (count_of m) (up_to n) q 0 0 (omega (arith, upto-length n, h)) ∙ ap (count_of m) (upto-get n q h)
 
   -- its sums are the lengths of the joined lists
   column-sum : (n k : ℕ) (rest : List ℕ) → k ≤ n → sum_to (counts_to m n ++ rest) k ≡ length (joined_to m k)

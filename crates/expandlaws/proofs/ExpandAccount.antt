@@ -41,10 +41,10 @@ use Rattle.expandtrace.proofs.Peaks.{placed-length, words-length}
 use Rattle.expandone.specs.Steps.{Followed}
 use Rattle.expandone.proofs.Laws.{trace-length, trace-at-most}
 use Rattle.expandpeak.specs.Expanded.{Run, floor_of, searched, or_else, by_way, searched_peaks, peaks_over, peaks_in, window_in, expanded}
-use Rattle.expandpeak.proofs.Laws.{local-index}
 use Rattle.expandlaws.specs.ExpandAccount.{apex_frame, Borne, Encloses, ExpandAccounted, PeakAccounted, raw_over, smooth_over, times_over, listed_over, Ordinary}
-use Rattle.expandlaws.proofs.Words.{map_get}
 use Rattle.expandlaws.proofs.Placing.{some_apex, Placing, search-placing, over-placing, frame_is, first-is, last-is, in_window}
+use Rattle.std.proofs.lemmas.List.{get_or-map}
+use Rattle.rtapex.proofs.Laws.{local-index}
 
 -- where a member stands
 pub record Stands (l : List ℕ) (i : ℕ) : Type 0 where
@@ -110,7 +110,7 @@ module _ (run : Run) (e : RtExpandParams) (ws : List Float) (p : ImPeak1D) (firs
 
     -- record k is that of the k-th listed apex
     apex-is : (k : ℕ) → k < count → get_or apexes k some_apex ≡ (local_peak_of y x t (get_or listed k 0)).apex
-    apex-is k h = map_get (λ i. (local_peak_of y x t i).apex) listed k 0 some_apex (omega (arith, count-is))
+    apex-is k h = get_or-map (λ i. (local_peak_of y x t i).apex) listed k 0 some_apex (omega (arith, count-is))
 
     frame_at : (k : ℕ) → k < count → apex_frame out (from + k) ≡ lo + get_or listed k 0
     frame_at k h =

@@ -32,9 +32,10 @@ use Rattle.expandtrace.specs.FallbackPeaks.{apexes_in, placed_all, fallback_peak
 use Rattle.expandtrace.proofs.Peaks.{placed-length}
 use Rattle.expandone.proofs.Laws.{trace-length}
 use Rattle.expandpeak.specs.Expanded.{Run, floor_of, searched, or_else, by_way, searched_peaks, peaks_over}
-use Rattle.expandpeak.proofs.Laws.{local-index}
 use Rattle.expandlaws.specs.ExpandAccount.{apex_frame, InWindow, raw_over, smooth_over, times_over, listed_over}
-use Rattle.expandlaws.proofs.Words.{map_get, words-behind, placed_at}
+use Rattle.expandlaws.proofs.Words.{words-behind, placed_at}
+use Rattle.std.proofs.lemmas.List.{get_or-map}
+use Rattle.rtapex.proofs.Laws.{local-index}
 
 -- any apex
 abbrev pub some_apex : RtApex
@@ -84,7 +85,7 @@ module _ (run : Run) (e : RtExpandParams) (ws : List Float) (p : ImPeak1D) (lo h
         are = refl;
         low = λ k h.
             let n : k < length listed = subst (λ (m : ℕ). k < m) (length-map listed (λ i. (local_peak_of y x t i).apex)) h in
-            subst (λ (m : ℕ). m < length x) (sym (ap (λ (a : RtApex). a.rt_idx) (map_get (λ i. (local_peak_of y x t i).apex) listed k 0 some_apex n) ∙ local-index y x t (get_or listed k 0))) (place-lt k n);
+            subst (λ (m : ℕ). m < length x) (sym (ap (λ (a : RtApex). a.rt_idx) (get_or-map (λ i. (local_peak_of y x t i).apex) listed k 0 some_apex n) ∙ local-index y x t (get_or listed k 0))) (place-lt k n);
       }
 
   module _ (some : 0 < length x) (few : length x ≤ exact_index) where

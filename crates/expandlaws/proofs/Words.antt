@@ -1,6 +1,6 @@
 -- Retention peaks as they are read from the words of a list, wherever they stand in it.
 use mathlib.Core.Path.{◌≡◌, refl, sym, ap, ◌∙◌}
-use mathlib.Core.List.{List, [], ◌∷◌, ◌++◌, map, append_assoc}
+use mathlib.Core.List.{List, [], ◌∷◌, ◌++◌, append_assoc}
 use Prim.Native.Nat.{ℕ, zero, suc, ◌<◌, ◌+◌, ◌*◌}
 use native.Mathlib.Omega.{arith}
 use lib.ListN.{length, get_or, drop, get_or-append}
@@ -11,12 +11,6 @@ use Rattle.rtrecord.specs.declared.RtApex.{RtApex}
 use Rattle.rtrecord.specs.declared.RtPeak1D.{RtPeak1D}
 use Rattle.rtplace.specs.Placed.{placed}
 use Rattle.expandtrace.specs.FallbackPeaks.{placed_all, peak_words}
-
--- an element of a mapped list
-pub map_get : {A B : Type 0} (f : A → B) (l : List A) (k : ℕ) (d : A) (e : B) → k < length l → get_or (map f l) k e ≡ f (get_or l k d)
-map_get f [] k d e h = absurd (omega arith)
-map_get f (a ∷ l) zero d e h = refl
-map_get f (a ∷ l) (suc k) d e h = map_get f l k d e (omega arith)
 
 -- a word of peak k
 words-at : (ps : List RtPeak1D) (rest : List ℕ) (k j : ℕ) (d : RtPeak1D) → k < length ps → j < 22 → get_or (peak_words ps ++ rest) (k * 22 + j) 0 ≡ get_or (rt_words (get_or ps k d)) j 0

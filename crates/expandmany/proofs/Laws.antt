@@ -17,7 +17,6 @@ use Rattle.rtrecord.specs.RtRecord.{rt_size}
 use Rattle.rtrecord.specs.declared.RtPeak1D.{RtPeak1D}
 use Rattle.digits.specs.Sorted.{up_to}
 use Rattle.digits.proofs.UpTo.{upto-length}
-use Rattle.chosen.proofs.Laws.{push}
 use Rattle.expandtrace.specs.FallbackPeaks.{peak_words, Put}
 use Rattle.expandtrace.proofs.Peaks.{words-join, words-length, put-start}
 use Rattle.rtparams.specs.declared.RtExpandParams.{RtExpandParams}
@@ -26,11 +25,10 @@ use Rattle.expandone.specs.Steps.{most, Expandable}
 use Rattle.expandmany.specs.Many.{Many, sum_to, weights_at, expanded_at, joined_to, count_of, counts_to}
 use Rattle.expandmany.specs.Steps.{Ready, Done, Reachable, PutBehind}
 use Rattle.expandmany.proofs.Few.{expanded-few}
+use Rattle.numeric.proofs.Lists.{push}
+use Rattle.numeric.proofs.Laws.{product-step}
 
 -- ---- sums and products
-
-product-step : (k m : ℕ) → (k + 1) * m ≡ k * m + m
-product-step k m = let e : (k + 1) * m ≡ k * m + 1 * m = add-mul k 1 m in omega arith
 
 pub sum-start : (l : List ℕ) → 0 ≡ sum_to l 0
 unfolding sum_to
@@ -200,7 +198,7 @@ module _ (m : Many) (n out counts : ℕ) (h : Ready m n out counts) where
             peaks = rw (joined-next m i) (put-more (joined_to m i) (expanded_at m i (m.first + length (joined_to m i))) out₀ out₁ out₂ total r d.peaks own);
             counted =
                 ap (λ (v : List ℕ). set v i r) d.counted
-                ∙ push (counts_to m i) counts₀ i r 0 (sym (counts-length m i)) (omega arith)
+                ∙ push (counts_to m i) counts₀ i r (counts-length m i) (omega arith)
                 ∙ ap (λ (v : List ℕ). v ++ drop (i + 1) counts₀) (ap (λ (v : ℕ). counts_to m i ++ (v ∷ [])) own.count ∙ sym (counts-next m i));
           }
 

@@ -2,18 +2,17 @@
 use mathlib.Core.Path.{◌≡◌, refl, sym, ap, ◌∙◌}
 use mathlib.Core.Bool.{Bool, true, false, ◌&&◌}
 use mathlib.Core.List.{List}
-use Prim.Native.Nat.{ℕ, suc, ◌≤◌, ◌<◌, ◌+◌, ◌-◌, ◌*◌, ◌/◌, min}
-use native.Mathlib.Nat.{le-div_iff_mul-le, div-lt_iff_lt-mul, mul_comm, zero-mul}
+use Prim.Native.Nat.{ℕ, suc, ◌≤◌, ◌<◌, ◌+◌, ◌-◌, min}
 use native.Mathlib.Numerals.{add-one}
 use native.Mathlib.Omega.{arith}
-use borrow.Author.Tests.{le-leb, lt-leb, leb-true, leb-false, eq-eqb, ne_eqb, eqb-true, eqb-false}
+use borrow.Author.Tests.{leb-true, leb-false, eq-eqb, ne_eqb, eqb-true, eqb-false}
 use lib.Dec.{leb, eqb}
-use lib.ListN.{length, get_or, take, drop, drop_of_length-le, length-drop}
-use lib.Seq.{drop-cons, drop-drop, take_all}
+use lib.ListN.{length, get_or, take, drop, drop_of_length-le}
+use lib.Seq.{drop-cons, take_all}
 use lib.Ieee.{Float}
-use Rattle.numeric.proofs.Laws.{and_assoc, and-true}
 use Rattle.smoothing.specs.Smoothing.{sound_weights}
 use Rattle.expandnumbers.specs.ExpandNumber.{sum_of, all_weights}
+use Rattle.std.proofs.Math.Bool.{and_assoc, and-true}
 
 -- ---- sums
 pub sum_step : (l : List ℕ) (i : ℕ) → i < length l → sum_of (drop i l) ≡ get_or l i 0 + sum_of (drop (i + 1) l)
@@ -23,28 +22,6 @@ sum_step l i h = rw (add-one, drop-cons l i 0)
 pub sum-end : (l : List ℕ) (i : ℕ) → length l ≤ i → sum_of (drop i l) ≡ 0
 unfolding sum_of
 sum-end l i h = rw (drop_of_length-le l h)
-
--- ---- a product at most a number
-pub times-fit : (n m most : ℕ) → 0 < n → leb m (most / n) ≡ leb (n * m) most
-times-fit n m most p = go (leb (n * m) most) refl
-  where
-    go : (b : Bool) → leb (n * m) most ≡ b → leb m (most / n) ≡ b
-    go true e = le-leb m (most / n) ((le-div_iff_mul-le p).1 (rw (mul_comm m n) (leb-true (n * m) most e)))
-    go false e = lt-leb m (most / n) ((div-lt_iff_lt-mul p).1 (rw (mul_comm m n) (leb-false (n * m) most e)))
-
-pub none-fit : (n m most : ℕ) → n ≡ 0 → true ≡ leb (n * m) most
-none-fit n m most e = sym (le-leb (n * m) most (rw (e, zero-mul m) (omega arith)))
-
--- ---- one more start than frames
-pub axes-paired : (starts ids times : ℕ) → ids < starts → (eqb (starts - ids) 1 && eqb times ids) ≡ (eqb starts (ids + 1) && eqb times ids)
-axes-paired starts ids times h = ap (λ (b : Bool). b && eqb times ids) (go (eqb starts (ids + 1)) refl)
-  where
-    go : (b : Bool) → eqb starts (ids + 1) ≡ b → eqb (starts - ids) 1 ≡ b
-    go true e = eq-eqb (starts - ids) 1 (omega (arith, eqb-true starts (ids + 1) e))
-    go false e = ne_eqb (starts - ids) 1 (λ k. eqb-false starts (ids + 1) e (omega arith))
-
-pub axes-unpaired : (starts ids times : ℕ) → starts ≤ ids → false ≡ (eqb starts (ids + 1) && eqb times ids)
-axes-unpaired starts ids times h = rw (ne_eqb starts (ids + 1) (λ k. absurd (omega arith)))
 
 -- ---- sums against a number
 pub sum_less : (a b n : ℕ) → n < a → eqb (a + b) n ≡ false
@@ -85,26 +62,14 @@ drop-cut l n k e = go (leb n (length l)) refl
         let f : k ≡ length l = omega arith in
         let past : length l ≤ n = omega arith in let own : length l ≤ length l = omega arith in rw f (drop_of_length-le l past ∙ sym (drop_of_length-le l own))
 
-pub weights-step : (l : List ℕ) (ws : List Float) (i at end : ℕ) (all : Bool) → i < length l → at ≤ length ws → end ≡ min (at + get_or l i 0) (length ws)
-    → (all && all_weights (drop i l) (drop at ws)) ≡ ((all && sound_weights (take (end - at) (drop at ws))) && all_weights (drop (i + 1) l) (drop end ws))
+pub weights-step : (l : List ℕ) (ws : List Float) (i mid : ℕ) (all : Bool) → i < length l → mid ≡ min (get_or l i 0) (length ws)
+    → (all && all_weights (drop i l) ws) ≡ ((all && sound_weights (take mid ws)) && all_weights (drop (i + 1) l) (drop mid ws))
 unfolding all_weights
-weights-step l ws i at end all h k e =
+weights-step l ws i mid all h e =
     rw (add-one, drop-cons l i 0)
-    (ap (λ (b : Bool). all && b) (ap (λ (x : List Float). sound_weights x && all_weights (drop (suc i) l) (drop (get_or l i 0) (drop at ws))) (sym part)
-    ∙ ap (λ (x : List Float). sound_weights (take (end - at) (drop at ws)) && all_weights (drop (suc i) l) x) (sym rest))
-    ∙ and_assoc all (sound_weights (take (end - at) (drop at ws))) (all_weights (drop (suc i) l) (drop end ws)))
-  where
-    n : ℕ
-    n = get_or l i 0
-
-    left : length (drop at ws) ≡ length ws - at
-    left = length-drop at ws
-
-    part : take (end - at) (drop at ws) ≡ take n (drop at ws)
-    part = take-cut (drop at ws) (end - at) n (omega (arith, e, left))
-
-    rest : drop end ws ≡ drop n (drop at ws)
-    rest = sym (drop-drop n at ws ∙ drop-cut ws (at + n) end (e ∙ refl))
+    (ap (λ (b : Bool). all && b) (ap (λ (x : List Float). sound_weights x && all_weights (drop (suc i) l) (drop (get_or l i 0) ws)) (sym (take-cut ws mid (get_or l i 0) e))
+    ∙ ap (λ (x : List Float). sound_weights (take mid ws) && all_weights (drop (suc i) l) x) (drop-cut ws (get_or l i 0) mid e))
+    ∙ sym (and_assoc all (sound_weights (take mid ws)) (all_weights (drop (suc i) l) (drop mid ws))))
 
 pub weights-end : (l : List ℕ) (ws : List Float) (i : ℕ) (all : Bool) → length l ≤ i → (all && all_weights (drop i l) ws) ≡ all
 unfolding all_weights

@@ -1,6 +1,5 @@
--- Which number of document 01 a call of expansion is answered with, 0 for none.
-use Rattle.std.specs.Prelude.{Bool, true, not, ◌&&◌, List, [], ◌∷◌, ℕ, ◌+◌, ◌-◌, ◌*◌, ◌/◌, leb, eqb, take, drop, Float}
-use Rattle.refusal.specs.Refusal.{Check}
+-- The parts of what a call of expansion is asked besides its index (`index_checks` of frameindex has the numbers).
+use Rattle.std.specs.Prelude.{Bool, true, ◌&&◌, List, [], ◌∷◌, ℕ, ◌+◌, ◌-◌, ◌*◌, ◌/◌, leb, eqb, take, drop, Float}
 use Rattle.limits.specs.Limits.{max_seconds, identities}
 use Rattle.numeric.specs.Numeric.{all_in_range}
 use Rattle.smoothing.specs.Smoothing.{sound_weights}
@@ -10,25 +9,6 @@ use Rattle.rttime.specs.Time.{never_falls}
 use Rattle.rtparams.specs.Expand.{sound_expand}
 use Rattle.rtparams.specs.declared.RtExpandParams.{RtExpandParams}
 use Rattle.rtrecord.specs.RtRecord.{rt_size}
-use Rattle.frameindex.specs.declared.inner.Seen.{Seen}
-use Rattle.expandnumbers.specs.declared.inner.Asked.{Asked}
-
--- The checks of a call, the lowest number first: what reading the index shows, and what the call is asked besides.
-abbrev pub expand_checks : Seen → Asked → List Check
-expand_checks s a =
-    record { number = 1; applies = not (s.agreeing && a.lengths) }
-    ∷ record { number = 2; applies = not (not s.too_large && a.sizes) }
-    ∷ record { number = 3; applies = not s.readings }
-    ∷ record { number = 4; applies = not a.values }
-    ∷ record { number = 5; applies = not (s.scans && a.tofs) }
-    ∷ record { number = 6; applies = not a.weights }
-    ∷ record { number = 7; applies = not a.axes }
-    ∷ record { number = 9; applies = not a.records }
-    ∷ record { number = 20; applies = not a.room }
-    ∷ record { number = 21; applies = not a.scratch }
-    ∷ record { number = 22; applies = not a.scale }
-    ∷ record { number = 23; applies = not s.sound }
-    ∷ []
 
 -- one frame number and one time for each frame of an index with so many starts, one of which stands behind the last frame
 abbrev pub paired_axes : ℕ → ℕ → ℕ → Bool

@@ -1,79 +1,11 @@
-// What a call of expansion is asked. Each function takes any lists and numbers.
+// The parts of what a call of expansion is asked. Each function takes any lists and numbers.
 ghost use Rattle.std.specs.Prelude.{◌≡◌, ◌≤◌, ◌+◌, ◌*◌, min, leb, length};
-ghost use Rattle.refusal.specs.Refusal.{first_of};
-ghost use Rattle.refusal.specs.Numbered.{number_in};
 ghost use Rattle.expandone.specs.Steps.{most};
-ghost use Rattle.expandnumbers.specs.ExpandNumber.{sums_to, all_weights, paired_axes, sound_values, rising_axes, enough_room, enough_scratch, expand_checks};
+ghost use Rattle.expandnumbers.specs.ExpandNumber.{sums_to, all_weights, paired_axes, sound_values, rising_axes, enough_room, enough_scratch};
 
-use frameindex::inner::Seen;
 use record::PeakId;
-use refusal::Refusal;
 use rtparams::RtExpandParams;
 use rtrecord::RtPeak1D;
-
-// What a call is asked besides its index, each true where it is met: lengths that agree (number 1), sizes within their limits (2),
-// parameters, times and identities (4), TOF values (5), weights (6), axes that rise or do not fall (7), records (9), room for what is
-// written (20), scratch (21), and a scale whose numbers agree (22). A flag for each rung of the ladder, of which any may be set: no enum
-// of cases stands for them.
-#[derive(Clone, Copy)]
-pub struct Asked {
-    pub lengths: bool,
-    pub sizes: bool,
-    pub values: bool,
-    pub tofs: bool,
-    pub weights: bool,
-    pub axes: bool,
-    pub records: bool,
-    pub room: bool,
-    pub scratch: bool,
-    pub scale: bool,
-}
-
-// Refuses with the lowest number that applies. The ladder of `frameindex::numbers` has no rungs 6 and 7, which stand between others here.
-#[tactic(auto, unfolding(refusal::specs::Refusal::first_of))]
-pub fn check(s: Seen, a: Asked) -> Result<(), Refusal>
-    ensures { number_in result ≡ first_of (expand_checks s a) }
-{
-    if !(s.agreeing & a.lengths) {
-        return Err(Refusal::Lengths);
-    }
-    if !(!s.too_large & a.sizes) {
-        return Err(Refusal::Size);
-    }
-    if !s.readings {
-        return Err(Refusal::Reading);
-    }
-    if !a.values {
-        return Err(Refusal::Value);
-    }
-    if !(s.scans & a.tofs) {
-        return Err(Refusal::Axis);
-    }
-    if !a.weights {
-        return Err(Refusal::Weights);
-    }
-    if !a.axes {
-        return Err(Refusal::Order);
-    }
-    if !a.records {
-        return Err(Refusal::Record);
-    }
-    if !a.room {
-        return Err(Refusal::Room);
-    }
-    if !a.scratch {
-        return Err(Refusal::Scratch);
-    }
-    if !a.scale {
-        return Err(Refusal::Scale);
-    }
-    if !s.sound {
-        return Err(Refusal::Index);
-    }
-    Ok(())
-}
-
-// ---- its parts
 
 // The retention peaks that a mobility peak can have over n frames.
 pub fn most_of(n: usize) -> usize
@@ -86,13 +18,10 @@ pub fn most_of(n: usize) -> usize
 pub fn paired_axes(starts: usize, ids: usize, times: usize) -> bool
     ensures { result ≡ paired_axes starts ids times }
 {
-    if ids < starts {
-        return (starts - ids == 1) & (times == ids);
-    }
-    false
+    (starts.checked_sub(ids) == Some(1)) & (times == ids)
 }
 
-// Whether lengths add up to n.
+// Whether lengths add up to n. A loop: by `try_fold` and `checked_sub` the proof does not close.
 pub fn sums_to(lengths: &[u32], n: usize) -> bool
     ensures { result ≡ sums_to lengths.now n }
 {
@@ -110,7 +39,7 @@ pub fn sums_to(lengths: &[u32], n: usize) -> bool
 fn fits_times(n: usize, m: usize, most: usize) -> bool
     ensures { result ≡ leb (n * m) most }
 {
-    n == 0 || m <= most / n
+    n.checked_mul(m).is_some_and(|all| all <= most)
 }
 
 // Whether each of the lists of weights that are joined, with these lengths, is sound.
@@ -118,11 +47,11 @@ pub fn all_weights(lengths: &[u32], weights: &[f32]) -> bool
     ensures { result ≡ all_weights lengths.now weights.now }
 {
     let mut all = true;
-    let mut at = 0usize;
+    let mut rest = weights;
     for &k in lengths {
-        let end = at + (k as usize).min(weights.len() - at);
-        all &= smoothing::inner::sound_weights(&weights[at..end]);
-        at = end;
+        let (list, behind) = rest.split_at((k as usize).min(rest.len()));
+        all &= smoothing::inner::sound_weights(list);
+        rest = behind;
     }
     all
 }

@@ -7,9 +7,11 @@ ghost use Rattle.expandone.specs.Runs.{run_in};
 
 use super::run::FollowedRun;
 use super::scratch::RunScratch;
+use expandpeak::inner::WindowTrace;
 use expandtrace::inner::Placing;
 use record::{ImPeak1D, PeakId};
 use rtwindow::Frames;
+use tof::CheckedScale;
 
 // Writes the retention peaks of a mobility peak over some frames to the front of `out` and answers how many there are.
 fn expand_over(
@@ -33,7 +35,7 @@ fn expand_over(
     let e = run.params;
     expandtrace::inner::put_trace(
         ix,
-        run.scale,
+        CheckedScale::of(run.scale),
         e.bin_pad,
         p,
         frames,
@@ -42,22 +44,20 @@ fn expand_over(
     );
     let end = frames.hi + 1;
     let n = end - frames.lo;
-    let at = Placing {
-        lo: frames.lo,
-        ids: run.ids,
-        times: run.times,
-        peak: p,
-        first,
-    };
-    expandpeak::inner::follow(
-        &scratch.raw[..n],
-        &run.times[frames.lo..end],
-        e,
+    let trace = WindowTrace {
+        readings: &scratch.raw[..n],
+        times: &run.times[frames.lo..end],
+        params: e,
         weights,
-        at,
-        &mut scratch.trace,
-        out,
-    )
+        at: Placing {
+            lo: frames.lo,
+            ids: run.ids,
+            times: run.times,
+            peak: p,
+            first,
+        },
+    };
+    trace.follow(&mut scratch.trace, out)
 }
 
 // Writes the retention peaks of a mobility peak to the front of `out` and answers how many there are.

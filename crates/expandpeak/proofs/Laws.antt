@@ -1,5 +1,5 @@
 -- The apexes of an order one after another, and what the steps of expansion are asked.
-use mathlib.Core.Path.{◌≡◌, refl, sym, ap, ◌∙◌, subst}
+use mathlib.Core.Path.{◌≡◌, sym, ap, ◌∙◌, subst}
 use mathlib.Core.Bool.{true}
 use mathlib.Core.List.{List, [], ◌∷◌, ◌++◌, map, map-append}
 use Prim.Native.Nat.{ℕ, ◌≤◌, ◌<◌, ◌+◌, ◌*◌}
@@ -29,11 +29,6 @@ use Rattle.expandtrace.specs.FallbackPeaks.{placed_all, fallback_peaks, peak_wor
 use Rattle.expandtrace.proofs.Peaks.{placed-more, put-start, put_next}
 use Rattle.expandpeak.specs.Expanded.{floor_of, searched, or_else, by_way}
 use Rattle.expandpeak.specs.Steps.{placed_apexes, apexes_of, followed, Listable, Searchable, Smoothable}
-
--- the index is that of the apex
-pub local-index : (y x t : List Float) (i : ℕ) → (local_peak_of y x t i).apex.rt_idx ≡ i
-unfolding local_peak_of
-local-index y x t i = refl
 
 module _ (y x t : List Float) (found order : List ℕ) (lo : ℕ) (ids : List ℕ) (p : ImPeak1D) (first : ℕ) where
   abbrev indices : ℕ → List ℕ
@@ -71,12 +66,13 @@ module _ (y x t : List Float) (found order : List ℕ) (lo : ℕ) (ids : List �
 
 -- ---- the search of a smoothed trace
 
--- apexes that are listed with the floor f, where that is the trace's
+-- apexes that are listed with the floor f, where that is the trace's; k of them are written, and n is answered
 pub put-searched : (lo : ℕ) (ids : List ℕ) (p : ImPeak1D) (first : ℕ) (e : RtExpandParams) (y x t : List Float) {n : ℕ} {was is : List ℕ} {f : Float} (l : List ℕ)
-    → f ≡ floor_of e y → l ≡ listed_apexes f e.min_sep_sec e.min_width_sec y x t
-    → Put (placed_apexes lo ids p y x t l first) was n is → Put (apexes_of e lo ids p y x t first) was n is
+    → f ≡ floor_of e y → l ≡ listed_apexes f e.min_sep_sec e.min_width_sec y x t → {k : ℕ} → k ≡ n
+    → Put (placed_apexes lo ids p y x t l first) was k is → Put (apexes_of e lo ids p y x t first) was n is
 unfolding searched
-put-searched lo ids p first e y x t {n = n} {was = was} {is = is} l g h put =
+put-searched lo ids p first e y x t {n = n} {was = was} {is = is} l g h m written =
+    let put : Put (placed_apexes lo ids p y x t l first) was n is = subst (λ (j : ℕ). Put (placed_apexes lo ids p y x t l first) was j is) m written in
     subst (λ (k : List ℕ). Put (placed_apexes lo ids p y x t k first) was n is)
     (h ∙ ap (λ (v : Float). listed_apexes v e.min_sep_sec e.min_width_sec y x t) g) put
 

@@ -52,56 +52,59 @@ fn search_smoothed(
     n
 }
 
-// The same for the trace x, which is smoothed first.
-fn search_trace(
-    x: &[f32],
-    t: &[f32],
-    e: RtExpandParams,
-    weights: &[f32],
-    at: Placing,
-    scratch: &mut TraceScratch<'_, '_>,
-    out: &mut [u32],
-) -> usize
-    requires { Smoothable x.now t.now weights.now at.lo at.ids.now at.first (length out.old) scratch.old.search.samples }
-    ensures put { Put (apexes_of e at.entry.lo at.entry.ids.now at.entry.peak (smoothed weights.now x.now) x.now t.now at.entry.first) out.old result out.new }
-    ensures samples { scratch.new.search.samples ≡ scratch.old.search.samples }
-{
-    smoothing::inner::smooth(x, weights, scratch.smooth);
-    let n = x.len();
-    let trace = Trace {
-        smoothed: &scratch.smooth[..n],
-        raw: x,
-        times: t,
-    };
-    search_smoothed(trace, e, at, &mut scratch.search, scratch.order, out)
+// A mobility peak's trace over its window: the readings and the times of these frames, what is asked of their apexes, the weights that the
+// readings are smoothed with, and where the peak's retention peaks are placed.
+#[derive(Clone, Copy)]
+pub struct WindowTrace<'a> {
+    pub readings: &'a [f32],
+    pub times: &'a [f32],
+    pub params: RtExpandParams,
+    pub weights: &'a [f32],
+    pub at: Placing<'a>,
 }
 
-// Follows a mobility peak whose trace over its window is x, by the way that the trace takes: writes its retention peaks to the front
-// of `out` and answers how many there are.
-pub fn follow(
-    x: &[f32],
-    t: &[f32],
-    e: RtExpandParams,
-    weights: &[f32],
-    at: Placing,
-    scratch: &mut TraceScratch<'_, '_>,
-    out: &mut [u32],
-) -> usize
-    requires { Followable x.now t.now weights.now at.lo at.ids.now at.times.now at.first (length out.old) scratch.old.search.samples }
-    ensures put { Put (followed e weights.now at.entry.ids.now at.entry.times.now at.entry.peak at.entry.lo x.now t.now at.entry.first) out.old result out.new }
-    ensures samples { scratch.new.search.samples ≡ scratch.old.search.samples }
-{
-    let way = expandtrace::inner::way_of(x, e.fallback_if_frames_lt);
-    let frac = e.fallback_frac_width;
-    match way {
-        Way::AllZero => 0,
-        Way::TooShort => at.put_fallback(x, frac, out),
-        Way::Smoothed => {
-            let n = search_trace(x, t, e, weights, at, scratch, out);
-            if n == 0 {
-                return at.put_fallback(x, frac, out);
+impl<'a> WindowTrace<'a> {
+    // Smooths the trace and does the same.
+    fn search(self, scratch: &mut TraceScratch<'_, '_>, out: &mut [u32]) -> usize
+        requires { Smoothable self.readings.now self.times.now self.weights.now self.at.lo self.at.ids.now self.at.first (length out.old) scratch.old.search.samples }
+        ensures put { Put (apexes_of self.entry.params self.entry.at.lo self.entry.at.ids.now self.entry.at.peak (smoothed self.entry.weights.now self.entry.readings.now) self.entry.readings.now self.entry.times.now self.entry.at.first) out.old result out.new }
+        ensures samples { scratch.new.search.samples ≡ scratch.old.search.samples }
+    {
+        smoothing::inner::smooth(self.readings, self.weights, scratch.smooth);
+        let n = self.readings.len();
+        let trace = Trace {
+            smoothed: &scratch.smooth[..n],
+            raw: self.readings,
+            times: self.times,
+        };
+        search_smoothed(
+            trace,
+            self.params,
+            self.at,
+            &mut scratch.search,
+            scratch.order,
+            out,
+        )
+    }
+
+    // Follows the mobility peak by the way that the trace takes: writes its retention peaks to the front of `out` and answers how many
+    // they are.
+    pub fn follow(self, scratch: &mut TraceScratch<'_, '_>, out: &mut [u32]) -> usize
+        requires { Followable self.readings.now self.times.now self.weights.now self.at.lo self.at.ids.now self.at.times.now self.at.first (length out.old) scratch.old.search.samples }
+        ensures put { Put (followed self.entry.params self.entry.weights.now self.entry.at.ids.now self.entry.at.times.now self.entry.at.peak self.entry.at.lo self.entry.readings.now self.entry.times.now self.entry.at.first) out.old result out.new }
+        ensures samples { scratch.new.search.samples ≡ scratch.old.search.samples }
+    {
+        let frac = self.params.fallback_frac_width;
+        match expandtrace::inner::way_of(self.readings, self.params.fallback_if_frames_lt) {
+            Way::AllZero => 0,
+            Way::TooShort => self.at.put_fallback(self.readings, frac, out),
+            Way::Smoothed => {
+                let n = self.search(scratch, out);
+                if n == 0 {
+                    return self.at.put_fallback(self.readings, frac, out);
+                }
+                n
             }
-            n
         }
     }
 }

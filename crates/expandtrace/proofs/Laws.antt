@@ -1,15 +1,15 @@
 -- Traces value by value, and where the fallback's apex lies.
 use mathlib.Core.Path.{◌≡◌, refl, sym, ap, ◌∙◌}
 use mathlib.Core.Bool.{Bool, true, false, cond, ◌||◌}
-use mathlib.Core.List.{List, ◌++◌, append-nil}
-use Prim.Native.Nat.{ℕ, suc, ◌≤◌, ◌<◌, ◌+◌}
-use native.Mathlib.Numerals.{add-one}
+use mathlib.Core.List.{List, [], ◌∷◌, ◌++◌, append-nil}
+use Prim.Native.Nat.{ℕ, ◌≤◌, ◌<◌}
+use Rattle.std.proofs.Math.Bool.{or-false, or_assoc}
 use native.Mathlib.Omega.{arith}
-use lib.ListN.{length, drop, drop_of_length-le}
-use lib.Seq.{drop-cons}
-use lib.Ieee.{Float, nan, lt, le}
+use lib.ListN.{length, drop}
+use Rattle.std.specs.List.{fold}
+use lib.Ieee.{Float, lt, le}
 use Rattle.limits.specs.Limits.{exact_index}
-use Rattle.numeric.specs.Arith.{𝟎, at}
+use Rattle.numeric.specs.Arith.{𝟎}
 use Rattle.rounding.specs.Rounding.{floor_f}
 use Rattle.record.specs.declared.ImPeak1D.{ImPeak1D}
 use Rattle.rtrecord.specs.RtRecord.{rt_size, rt_words, rt_peak_of}
@@ -22,21 +22,11 @@ use Rattle.expandtrace.specs.Trace.{any_above}
 use Rattle.expandtrace.specs.FallbackPeaks.{apexes_in, placed_all, fallback_peaks, peak_words, Put}
 
 -- ---- values above 0
-or_assoc : (a b c : Bool) → (a || (b || c)) ≡ ((a || b) || c)
-or_assoc true b c = refl
-or_assoc false b c = refl
 
-or-false : (a : Bool) → (a || false) ≡ a
-or-false true = refl
-or-false false = refl
-
-pub any_step : (x : List Float) (i : ℕ) (any : Bool) → i < length x → (any || any_above (drop i x)) ≡ ((any || lt 𝟎 (at x i)) || any_above (drop (i + 1) x))
+pub any-fold : (x : List Float) (any : Bool) → fold (λ (any : Bool) (v : Float). any || lt 𝟎 v) any x ≡ (any || any_above x)
 unfolding any_above
-any_step x i any h = rw (add-one, drop-cons x i nan) (or_assoc any (lt 𝟎 (at x i)) (any_above (drop (suc i) x)))
-
-pub any-end : (x : List Float) (i : ℕ) (any : Bool) → length x ≤ i → (any || any_above (drop i x)) ≡ any
-unfolding any_above
-any-end x i any h = rw (drop_of_length-le x h) (or-false any)
+any-fold [] any = sym (or-false any)
+any-fold (v ∷ vs) any = any-fold vs (any || lt 𝟎 v) ∙ or_assoc any (lt 𝟎 v) (any_above vs)
 
 -- ---- the fallback
 

@@ -1,7 +1,6 @@
 // Steps for a mobility peak, a window and a run that the caller has checked.
 ghost use Rattle.std.specs.Prelude.{◌≡◌, ◌++◌, ◌≤◌, ◌<◌, ◌+◌, ◌-◌, length, drop};
 ghost use Rattle.limits.specs.Limits.{max_count, exact_index};
-ghost use Rattle.tof.specs.Tof.{Sound};
 ghost use Rattle.rtrecord.specs.RtRecord.{rt_size, rt_words};
 ghost use Rattle.rtplace.specs.Placed.{placed};
 ghost use Rattle.expandtrace.specs.Trace.{trace_over, any_above, way_of};
@@ -11,7 +10,7 @@ use frameindex::CheckedIndex;
 use record::{ImPeak1D, PeakId};
 use rtrecord::RtApex;
 use rtwindow::Frames;
-use tof::TofScale;
+use tof::CheckedScale;
 
 // Which way a mobility peak takes whose frames are known: its trace has no reading above 0, it has fewer frames than are searched, or
 // it is smoothed and searched. Three ways by name, none of which carries a value.
@@ -38,15 +37,15 @@ pub struct Placing<'a> {
 #[tactic(auto, unfolding(crate::specs::Trace::trace_over))]
 pub fn put_trace(
     ix: &CheckedIndex,
-    scale: TofScale,
+    scale: CheckedScale,
     pad: u32,
     p: ImPeak1D,
     frames: Frames,
     near: &mut [u32],
     out: &mut [f32],
 )
-    requires { Sound scale × (pad ≤ max_count) × (frames.lo ≤ frames.hi) × (frames.hi + 1 < length ix.now.starts) × (frames.hi + 1 - frames.lo ≤ length out.old) × (frames.hi < length near.old) }
-    ensures { out.new ≡ trace_over ix.now scale pad p frames.lo frames.hi ++ drop (frames.hi + 1 - frames.lo) out.old }
+    requires { (pad ≤ max_count) × (frames.lo ≤ frames.hi) × (frames.hi + 1 < length ix.now.starts) × (frames.hi + 1 - frames.lo ≤ length out.old) × (frames.hi < length near.old) }
+    ensures { out.new ≡ trace_over ix.now scale.scale pad p frames.lo frames.hi ++ drop (frames.hi + 1 - frames.lo) out.old }
 {
     let w = windows::inner::peak_window(scale, pad, p);
     let n = frames.hi + 1 - frames.lo;
@@ -57,11 +56,7 @@ pub fn put_trace(
 fn any_above(x: &[f32]) -> bool
     ensures { result ≡ any_above x.now }
 {
-    let mut any = false;
-    for &v in x {
-        any |= 0.0 < v;
-    }
-    any
+    x.iter().fold(false, |any, &v| any | (0.0 < v))
 }
 
 #[tactic(auto, unfolding(crate::specs::Trace::way_of))]

@@ -32,7 +32,7 @@ sigma_over sec times lo hi = max_f (sec ⊘ dt_f (cut lo hi times)) least_sigma
 -- a window with its sigma
 unfoldable pub with_sigma : Float → List Float → Option Frames → Option RtWindow
 with_sigma sec times None = None
-with_sigma sec times (Some w) = Some (record { lo = w.lo; hi = w.hi; sigma = sigma_over sec times w.lo w.hi })
+with_sigma sec times (Some w) = Some (record { frames = w; sigma = sigma_over sec times w.lo w.hi })
 
 -- The padded frame window of a mobility peak in a run with these frame numbers and times, with its sigma, if it has one.
 unfoldable pub window_of : List ℕ → List Float → RtExpandParams → ImPeak1D → Option RtWindow

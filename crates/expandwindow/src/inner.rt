@@ -7,22 +7,24 @@ use record::ImPeak1D;
 use rtparams::RtExpandParams;
 use rtwindow::Frames;
 
-// Frames by their places in the run, the first and the last, with the sigma of the smoothing over them.
+// Frames with the sigma of the smoothing over them.
 #[derive(Clone, Copy)]
 pub struct RtWindow {
-    pub lo: usize,
-    pub hi: usize,
+    pub frames: Frames,
     pub sigma: f32,
 }
 
-// The sigma of a smoothing of `sec` seconds in frames, over the frames lo to hi.
+// The sigma of a smoothing of `sec` seconds in frames, over some frames.
 #[tactic(auto, unfolding(crate::specs::Window::sigma_over))]
-fn sigma_over(sec: f32, times: &[f32], lo: usize, hi: usize) -> f32
-    requires { (lo ≤ hi) × (hi < length times.now) }
-    ensures { result ≡ sigma_over sec times.now lo hi }
+fn sigma_over(sec: f32, times: &[f32], frames: Frames) -> f32
+    requires { (frames.lo ≤ frames.hi) × (frames.hi < length times.now) }
+    ensures { result ≡ sigma_over sec times.now frames.lo frames.hi }
 {
-    let end = hi + 1;
-    numeric::max(sec / noise::inner::effective_dt(&times[lo..end]), 0.75)
+    let end = frames.hi + 1;
+    numeric::max(
+        sec / noise::inner::effective_dt(&times[frames.lo..end]),
+        0.75,
+    )
 }
 
 // The padded frame window of a peak with its sigma, if it has one. Numbers and times of the frames stand apart, since each step needs the
@@ -32,15 +34,14 @@ pub fn window_of(ids: &[u32], times: &[f32], e: RtExpandParams, p: ImPeak1D) -> 
     requires { (rising ids.now ≡ true) × (length ids.now ≤ 4294967296) × (length times.now ≡ length ids.now) × (p.frame_id_lo ≤ p.frame_id_hi) }
     ensures { result ≡ window_of ids.now times.now e p }
 {
-    let Frames { lo, hi } = rtwindow::inner::padded_window(
+    let frames = rtwindow::inner::padded_window(
         ids,
         p.frame_id_lo,
         p.frame_id_hi,
         e.rt_pad_frames,
     )?;
     Some(RtWindow {
-        lo,
-        hi,
-        sigma: sigma_over(e.smooth_sigma_sec, times, lo, hi),
+        frames,
+        sigma: sigma_over(e.smooth_sigma_sec, times, frames),
     })
 }

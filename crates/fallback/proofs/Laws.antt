@@ -1,35 +1,36 @@
 -- Laws of a trace that a loop reads from the front.
-use mathlib.Core.Path.{◌≡◌, refl, ap}
+use mathlib.Core.Path.{◌≡◌, refl, sym}
 use mathlib.Core.Bool.{Bool, true, false, cond}
 use mathlib.Core.List.{List, [], ◌∷◌}
 use Prim.Native.Nat.{ℕ, suc, ◌≤◌, ◌<◌, ◌+◌}
 use native.Mathlib.Numerals.{add-one}
 use native.Mathlib.Omega.{arith}
-use lib.ListN.{length, drop, drop_of_length-le}
-use lib.Seq.{drop-cons}
-use lib.Ieee.{Float, nan, lt, le, of_bits}
-use Rattle.numeric.specs.Arith.{◌⊕◌, ◌⊗◌, index_f, at}
+use lib.ListN.{length}
+use lib.Ieee.{Float, lt, le, of_bits}
+use Rattle.numeric.specs.Arith.{◌⊕◌, ◌⊗◌, index_f}
 use Rattle.apex.specs.Apex.{least}
 use Rattle.record.specs.declared.ImPeak1D.{ImPeak1D}
 use Rattle.fallback.specs.Fallback.{top_from, top_of, sums_from, fallback_of}
 use Rattle.fallback.specs.declared.inner.Top.{Top}
+use Rattle.fallback.specs.declared.inner.Sums.{Sums}
+use Rattle.std.specs.List.{fold, enumerate_from}
 use Rattle.std.specs.Prelude.{None}
 
 -- ---- the highest reading
 
-pub top-higher : (y : List Float) (i place : ℕ) (h : Float) → i < length y → lt h (at y i) ≡ true
-    → top_from (drop i y) i place h ≡ top_from (drop (i + 1) y) (i + 1) i (at y i)
-unfolding top_from
-top-higher y i place h b t = rw (add-one, drop-cons y i nan, t)
+abbrev pub higher : Top → ℕ × Float → Top
+higher t p = cond (lt t.height p.1) (record { place = p.0; height = p.1 }) t
 
-pub top-lower : (y : List Float) (i place : ℕ) (h : Float) → i < length y → lt h (at y i) ≡ false
-    → top_from (drop i y) i place h ≡ top_from (drop (i + 1) y) (i + 1) place h
+pub top-fold : (y : List Float) (k : ℕ) (t : Top) → fold higher t (enumerate_from k y) ≡ top_from y k t.place t.height
 unfolding top_from
-top-lower y i place h b t = rw (add-one, drop-cons y i nan, t)
-
-pub top-end : (y : List Float) (i place : ℕ) (h : Float) → length y ≤ i → top_from (drop i y) i place h ≡ record { place = place; height = h }
-unfolding top_from
-top-end y i place h b = rw (drop_of_length-le y b)
+top-fold [] k t = refl
+top-fold (v ∷ vs) k t =
+    rw (sym (add-one k)) (either (lt t.height v) (record { place = k; height = v }) t (top-fold vs (k + 1) (record { place = k; height = v })) (top-fold vs (k + 1) t))
+  where
+    either : (c : Bool) (a b : Top) {A B : Top} → fold higher a (enumerate_from (k + 1) vs) ≡ A → fold higher b (enumerate_from (k + 1) vs) ≡ B
+        → fold higher (cond c a b) (enumerate_from (k + 1) vs) ≡ cond c A B
+    either true a b p q = p
+    either false a b p q = q
 
 -- its place is one of the trace
 top_below : (vs : List Float) (k place n : ℕ) (h : Float) → place < n → k + length vs ≤ n → (top_from vs k place h).place < n
@@ -48,26 +49,18 @@ top_within y t e h = rw e (top_below y 0 0 (length y) _ h (omega arith))
 
 -- ---- sums
 
-pub sums-step : (y : List Float) (i : ℕ) (mass moment : Float) → i < length y
-    → sums_from (drop i y) i mass moment ≡ sums_from (drop (i + 1) y) (i + 1) (mass ⊕ at y i) (moment ⊕ index_f i ⊗ at y i)
+pub sums-fold : (y : List Float) (k : ℕ) (s : Sums)
+    → fold (λ (s : Sums) (p : ℕ × Float). record { mass = s.mass ⊕ p.1; moment = s.moment ⊕ index_f p.0 ⊗ p.1 }) s (enumerate_from k y) ≡ sums_from y k s.mass s.moment
 unfolding sums_from
-sums-step y i mass moment h = rw (add-one, drop-cons y i nan)
-
-pub sums-end : (y : List Float) (i : ℕ) (mass moment : Float) → length y ≤ i
-    → sums_from (drop i y) i mass moment ≡ record { mass = mass; moment = moment }
-unfolding sums_from
-sums-end y i mass moment h = rw (drop_of_length-le y h)
+sums-fold [] k s = refl
+sums-fold (v ∷ vs) k s = rw (sym (add-one k)) (sums-fold vs (k + 1) (record { mass = s.mass ⊕ v; moment = s.moment ⊕ index_f k ⊗ v }))
 
 -- ---- the least reading
 
-pub least_step : (y : List Float) (i : ℕ) (m n : Float) → i < length y → cond (lt (at y i) m) (at y i) m ≡ n
-    → least m (drop i y) ≡ least n (drop (i + 1) y)
+pub least-fold : (y : List Float) (m : Float) → fold (λ (m v : Float). cond (lt v m) v m) m y ≡ least m y
 unfolding least
-least_step y i m n h e = rw (add-one, drop-cons y i nan) (ap (λ (x : Float). least x (drop (suc i) y)) e)
-
-pub least-end : (y : List Float) (i : ℕ) (m : Float) → length y ≤ i → least m (drop i y) ≡ m
-unfolding least
-least-end y i m h = rw (drop_of_length-le y h)
+least-fold [] m = refl
+least-fold (v ∷ vs) m = least-fold vs (cond (lt v m) v m)
 
 -- ---- an empty trace has no peak
 

@@ -27,41 +27,42 @@ pub struct Sums {
 fn top_of(y: &[f32]) -> Top
     ensures { result ≡ top_of y.now }
 {
-    let mut place = 0;
-    let mut height = 0.0;
-    for (i, &v) in y.iter().enumerate() {
-        if v > height {
-            height = v;
-            place = i;
+    let none = Top {
+        place: 0,
+        height: 0.0,
+    };
+    y.iter().enumerate().fold(none, |top, (place, &height)| {
+        if height > top.height {
+            Top { place, height }
+        } else {
+            top
         }
-    }
-    Top { place, height }
+    })
 }
 
 fn sums_of(y: &[f32]) -> Sums
     requires { length y.now ≤ exact_index }
     ensures { result ≡ sums_of y.now }
 {
-    let mut mass = 0.0;
-    let mut moment = 0.0;
-    for (i, &v) in y.iter().enumerate() {
-        mass += v;
-        moment += numeric::inner::of_index(i) * v;
-    }
-    Sums { mass, moment }
+    let none = Sums {
+        mass: 0.0,
+        moment: 0.0,
+    };
+    y.iter().enumerate().fold(
+        none,
+        |s, (i, &v)| Sums {
+            mass: s.mass + v,
+            moment: s.moment + numeric::inner::of_index(i) * v,
+        },
+    )
 }
 
 // The least reading, infinity for none.
 fn least_of(y: &[f32]) -> f32
     ensures { result ≡ least ∞ y.now }
 {
-    let mut m = numeric::float_of(0x7f80_0000);
-    for &v in y {
-        if v < m {
-            m = v;
-        }
-    }
-    m
+    let infinity = numeric::float_of(0x7f80_0000);
+    y.iter().fold(infinity, |m, &v| if v < m { v } else { m })
 }
 
 // The centre of mass of a trace, in frames; a given place where there is no mass.
@@ -102,7 +103,7 @@ fn bounds_of(ids: &[u32], p: ImPeak1D, left: u32, right: u32) -> RtBounds
 {
     let rt_lo = left.min(right);
     let rt_hi = left.max(right);
-    if ids.len() == 0 {
+    if ids.is_empty() {
         return RtBounds {
             rt_lo,
             rt_hi,
@@ -159,7 +160,7 @@ pub fn fallback_rt_peak_from_trace(
     requires { (length trace.now ≤ exact_index) × (0 < length trace.now → 0 < length times.now) }
     ensures { result ≡ fallback_of trace.now ids.now times.now p frac id }
 {
-    if trace.len() == 0 {
+    if trace.is_empty() {
         return None;
     }
     let top = top_of(trace);

@@ -1,6 +1,7 @@
 // The lists of a frame: its points, and what is lent for its part of an index.
 
-// The TOF value, the absolute scan and the reading of each point.
+// The TOF value, the absolute scan and the reading of each point. That they are as many is no ghost field: an
+// entry fills the struct before it compares them.
 #[derive(Clone, Copy)]
 pub struct Points<'a> {
     pub tofs: &'a [u32],

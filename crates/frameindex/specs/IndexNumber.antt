@@ -1,5 +1,5 @@
 -- Which number of document 01 a call on an index is answered with, 0 for none, and what is left of it.
-use Rattle.std.specs.Prelude.{◌≡◌, Bool, true, false, cond, not, ◌&&◌, List, [], ◌∷◌, ◌++◌, ℕ, ◌+◌, eqb, ltb, length, drop, Float}
+use Rattle.std.specs.Prelude.{◌≡◌, true, false, cond, not, ◌&&◌, List, [], ◌∷◌, ◌++◌, ℕ, ◌+◌, eqb, ltb, length, drop, Float}
 use Rattle.refusal.specs.Refusal.{Check, first_of}
 use Rattle.refusal.specs.Answers.{Says, answer_by}
 use Rattle.frameindex.specs.declared.inner.Seen.{Seen}
@@ -14,6 +14,8 @@ index_checks s f =
     ∷ record { number = 3; applies = not s.readings }
     ∷ record { number = 4; applies = not f.values }
     ∷ record { number = 5; applies = not (s.scans && f.axes) }
+    ∷ record { number = 6; applies = not f.weights }
+    ∷ record { number = 7; applies = not f.order }
     ∷ record { number = 9; applies = not f.records }
     ∷ record { number = 20; applies = not f.room }
     ∷ record { number = 21; applies = not f.scratch }
@@ -36,15 +38,28 @@ pub record Accepted (ix : Index) (f : Further) : Type 0 where
   pub sizes : f.sizes ≡ true
   pub values : f.values ≡ true
   pub axes : f.axes ≡ true
+  pub weights : f.weights ≡ true
+  pub order : f.order ≡ true
   pub records : f.records ≡ true
   pub room : f.room ≡ true
   pub scratch : f.scratch ≡ true
   pub scale : f.scale ≡ true
 
--- what is asked besides where there is no list besides the index, and no scratch: parameters, TOF values and scans, room, a scale
-abbrev pub plainly : Bool → Bool → Bool → Bool → Further
-plainly values axes room scale =
-    record { lengths = true; sizes = true; values = values; axes = axes; records = true; room = room; scratch = true; scale = scale }
+-- nothing is asked besides, or all of it is met: a call names what it asks and takes the rest from here
+abbrev pub met : Further
+met =
+    record {
+      lengths = true;
+      sizes = true;
+      values = true;
+      axes = true;
+      weights = true;
+      order = true;
+      records = true;
+      room = true;
+      scratch = true;
+      scale = true;
+    }
 
 -- What is left of a call that puts sums to the front of a lent list. Accepted, with number 0: the count of the sums is answered, the sums
 -- stand at the front, and behind them what was there. Refused: the number is answered, and all is as it was.

@@ -71,7 +71,8 @@ impl<'a> FrameIndex<'a> {
     }
 }
 
-// An index that numbers 1 and 23 do not refuse.
+// An index that numbers 1 and 23 do not refuse. It holds the five lists itself: with a FrameIndex inside, a Model within a Model, the
+// borrow checker refuses to read two of its lists in one expression.
 #[derive(Drop)]
 pub struct CheckedIndex<'a> {
     pub starts: &'a [u32],

@@ -2,44 +2,46 @@
 ghost use Rattle.std.specs.Prelude.{◌≡◌};
 ghost use Rattle.refusal.specs.Numbered.{number_in};
 ghost use Rattle.refusal.specs.Refusal.{first_of};
-ghost use Rattle.frameindex.specs.IndexNumber.{index_checks, plainly};
+ghost use Rattle.frameindex.specs.IndexNumber.{index_checks};
 
 use super::inner::Seen;
 use refusal::Refusal;
 
 // What a call is asked besides its index, each true where it is met: lengths that agree (number 1), sizes within their limits (2),
-// parameters (4), TOF values and scans (5) and records (9) in range, room for what is written (20), scratch (21), and a scale whose
-// numbers agree (22). A flag for each rung of the ladder, of which any may be set: no enum of cases stands for them.
+// parameters (4), TOF values and scans (5) and weights (6) in range, numbers and times in order (7), records (9), room for what is
+// written (20), scratch (21), and a scale whose numbers agree (22). A flag for each rung of the ladder, of which any may be set: no enum
+// of cases stands for them.
 #[derive(Clone, Copy)]
 pub struct Further {
     pub lengths: bool,
     pub sizes: bool,
     pub values: bool,
     pub axes: bool,
+    pub weights: bool,
+    pub order: bool,
     pub records: bool,
     pub room: bool,
     pub scratch: bool,
     pub scale: bool,
 }
 
-// Of a call that takes no list besides the index, and no scratch.
-pub fn plain(values: bool, axes: bool, room: bool, scale: bool) -> Further
-    ensures { result ≡ plainly values axes room scale }
-{
-    Further {
+impl Further {
+    // All of it: a call names the rungs that it has and takes the others from here.
+    pub const MET: Further = Further {
         lengths: true,
         sizes: true,
-        values,
-        axes,
+        values: true,
+        axes: true,
+        weights: true,
+        order: true,
         records: true,
-        room,
+        room: true,
         scratch: true,
-        scale,
-    }
+        scale: true,
+    };
 }
 
-// Refuses with the lowest number that applies. Expansion has a ladder of its own, in which 6 and 7 stand between these rungs, so that none
-// of the two is a part of the other.
+// Refuses with the lowest number that applies.
 #[tactic(auto, unfolding(refusal::specs::Refusal::first_of))]
 pub fn check(s: Seen, f: Further) -> Result<(), Refusal>
     ensures { number_in result ≡ first_of (index_checks s f) }
@@ -58,6 +60,12 @@ pub fn check(s: Seen, f: Further) -> Result<(), Refusal>
     }
     if !(s.scans & f.axes) {
         return Err(Refusal::Axis);
+    }
+    if !f.weights {
+        return Err(Refusal::Weights);
+    }
+    if !f.order {
+        return Err(Refusal::Order);
     }
     if !f.records {
         return Err(Refusal::Record);

@@ -2,14 +2,14 @@
 use Rattle.std.specs.Prelude.{List, ℕ, length, Float}
 use Rattle.tof.specs.declared.TofScale.{TofScale}
 use Rattle.frameindex.specs.FrameIndex.{Index}
-use Rattle.windows.specs.Windows.{padded_bins}
+use Rattle.windows.specs.Windows.{row_window}
 use Rattle.windows.specs.declared.inner.Bounds.{Bounds}
-use Rattle.traces.specs.Traces.{trace_of, row_asks, bounds_asks, window_by}
+use Rattle.traces.specs.Traces.{trace_of, row_of, row_asks, bounds_asks, window_by}
 use Rattle.framesapi.specs.Sums.{Summed}
 
 -- around a TOF row
 abbrev pub RowSummed : Index → ℕ → ℕ → ℕ → ℕ → List Float → List Float → ℕ → Type 0
-RowSummed ix row pad s t was is r = Summed ix (row_asks ix row pad s t (length was)) (trace_of ix (padded_bins row row pad s t)) was is r
+RowSummed ix row pad s t was is r = Summed ix (row_asks ix (row_of row pad s t) (length was)) (trace_of ix (row_window (row_of row pad s t))) was is r
 
 -- by TOF bounds
 abbrev pub BoundsSummed : Index → TofScale → Bounds → List Float → List Float → ℕ → Type 0

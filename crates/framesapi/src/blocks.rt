@@ -1,4 +1,4 @@
-// Marginals as C functions on numbers and lists. C has no structs of lists, so each of the two makes its own of flat arguments.
+// Marginals as C functions on numbers and lists. Each list is an argument of its own, and each of the two makes its structs of them.
 ghost use Rattle.frameindex.specs.FrameIndex.{index_of};
 ghost use Rattle.marginals.specs.Marginals.{block_of};
 ghost use Rattle.framesapi.specs.Marginals.{RtSummed, ImSummed};

@@ -1,4 +1,4 @@
-// The retention traces of a list of peaks as a C function on numbers and lists.
+// The retention traces of a list of peaks as a C function on numbers and lists. Each list is an argument of its own.
 ghost use Rattle.frameindex.specs.FrameIndex.{index_of};
 ghost use Rattle.manytraces.specs.ManyTraces.{call_of};
 ghost use Rattle.framesapi.specs.Scale.{scale_of};

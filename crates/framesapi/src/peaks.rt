@@ -1,4 +1,4 @@
-// Retention traces as C functions on numbers and lists.
+// Retention traces as C functions on numbers and lists. Each list is an argument of its own.
 ghost use Rattle.frameindex.specs.FrameIndex.{index_of};
 ghost use Rattle.traces.specs.Traces.{bounds_of};
 ghost use Rattle.framesapi.specs.Scale.{scale_of};
@@ -7,7 +7,7 @@ ghost use Rattle.framesapi.specs.Traces.{RowSummed, BoundsSummed};
 use entryword::word_of;
 use frameindex::FrameIndex;
 use tof::TofScale;
-use windows::inner::Bounds;
+use windows::inner::{Bounds, PaddedRow};
 
 // Puts a sum for each frame to the front of `out`, around a TOF row, and answers 64 times their count, or answers with a number and
 // leaves `out` as it is.
@@ -34,7 +34,13 @@ pub extern "C" fn rubzolena_rt_trace_for_im_peak(
         scans,
         readings,
     };
-    let answer = traces::rt_trace_for_im_peak(&ix, tof_row, bin_pad, scan_lo, scan_hi, out);
+    let r = PaddedRow {
+        row: tof_row,
+        pad: bin_pad,
+        scan_lo,
+        scan_hi,
+    };
+    let answer = traces::rt_trace_for_im_peak(&ix, r, out);
     word_of(answer)
 }
 

@@ -1,4 +1,4 @@
-// The points of a frame as its part of an index, as a C function on numbers and lists.
+// The points of a frame as its part of an index, as a C function on numbers and lists. Each list is an argument of its own.
 ghost use Rattle.std.specs.Prelude.{◌≡◌};
 ghost use Rattle.refusal.specs.Numbered.{says};
 ghost use Rattle.entryword.specs.Word.{word_of, itself};
@@ -17,7 +17,7 @@ use tof::TofScale;
 fn bins_of(answer: Result<Counts, Refusal>) -> Result<usize, Refusal>
     ensures { word_of itself (says result) ≡ word_of bins_in (says answer) }
 {
-    Ok(answer?.bins)
+    answer.map(|counts| counts.bins)
 }
 
 // Puts the points of a frame that have a bin, sorted by bin, to the front of four lists and answers 64 times the count of bins; or

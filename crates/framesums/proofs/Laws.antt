@@ -1,21 +1,21 @@
 -- Sums of points, bins and frames, part by part.
 use mathlib.Core.Path.{◌≡◌, refl, sym, ap, ◌∙◌}
 use mathlib.Core.Bool.{Bool, true, false, cond, ◌||◌}
-use mathlib.Core.List.{List, [], ◌∷◌, ◌++◌, map, map-append, append_assoc}
-use Prim.Native.Nat.{ℕ, zero, suc, ◌≤◌, ◌<◌, ◌+◌, ◌-◌}
+use mathlib.Core.List.{List, [], ◌∷◌, ◌++◌, map-append}
+use Prim.Native.Nat.{ℕ, zero, suc, ◌≤◌, ◌<◌, ◌+◌, ◌-◌, ◌*◌, ◌/◌}
 use native.Mathlib.Numerals.{add-one}
 use native.Mathlib.Omega.{arith}
-use borrow.Author.Tests.{le-leb, lt-leb, ltb-true, ltb-false, lt-ltb}
+use borrow.Author.Tests.{le-leb, lt-leb, ltb-true, ltb-false}
 use lib.Dec.{leb, ltb}
 use lib.ListN.{length, get_or, take, drop, set, length-map, length-drop}
-use lib.Seq.{drop-cons, take-suc, set_at, get_or-take, get_or-drop, length-take-le}
-use lib.Ieee.{Float, nan}
-use Rattle.std.specs.Prelude.{MatchOption, Option, Some, None, is_some}
+use lib.Seq.{get_or-take, get_or-drop, length-take-le}
+use lib.Ieee.{Float}
+use Rattle.std.specs.Prelude.{Option, Some, None, is_some}
+use Rattle.std.specs.Option.{unwrap_or}
 use Rattle.std.specs.List.{position, position_or_len}
-use Rattle.std.specs.List.Sorted.{IsPartitionedBy, IsPartitionPoint}
 use Rattle.std.proofs.lemmas.List.Quantifiers.{position-Some}
 use Rattle.std.proofs.lemmas.List.Sums.{fails_before_first}
-use Rattle.refusal.proofs.Bools.{clash, and-false, neither}
+use Rattle.refusal.proofs.Bools.{clash, neither}
 use Rattle.numeric.specs.Arith.{◌⊕◌, 𝟎, at}
 use Rattle.digits.specs.Sorted.{up_to}
 use Rattle.digits.proofs.UpTo.{upto-length}
@@ -24,10 +24,16 @@ use Rattle.frameindex.proofs.Laws.{climbs-up, climbs-most, frame-up, sound-parts
 use Rattle.framesums.specs.declared.inner.Window.{Window}
 use Rattle.framesums.specs.Sums.{in_bins, in_scans, add_points, add_bins, add_frame, frame_sums}
 use Rattle.framesums.specs.Steps.{Checked, Rising, FirstAt, any_in, with_scans, PointsOf}
+use Rattle.std.proofs.Math.Bool.{or_assoc, or-false, and-false}
+use Rattle.numeric.proofs.Lists.{push}
 
 -- an element of a part, by its place in the whole
 pub part_at : {A : Type 0} (a b : ℕ) (l : List A) (i : ℕ) (d : A) → i < b - a → get_or (take (b - a) (drop a l)) i d ≡ get_or l (a + i) d
 part_at a b l i d h = get_or-take (b - a) (drop a l) i d h ∙ get_or-drop a l i d
+
+-- its length
+pub part_length : {A : Type 0} (a b : ℕ) (l : List A) → a ≤ b → b ≤ length l → length (take (b - a) (drop a l)) ≡ b - a
+part_length a b l h m = length-take-le (b - a) (drop a l) (rw (length-drop a l) (omega arith))
 
 module _ (ix : Index) (w : Window) where
   -- ---- points
@@ -142,25 +148,25 @@ any_step w scans n i j h =
     let k : j + (i + 1) ≡ j + i + 1 = omega arith in
     rw (e, k)
 
-or_assoc : (a b c : Bool) → (a || (b || c)) ≡ ((a || b) || c)
-or_assoc true b c = refl
-or_assoc false b c = refl
-
-or-false : (a : Bool) → (a || false) ≡ a
-or-false true = refl
-or-false false = refl
-
 pub any-more : (w : Window) (scans : List ℕ) (n i j : ℕ) (any : Bool) → i < n → any_in w scans n j ≡ (any || any_in w scans (n - i) (j + i))
     → any_in w scans n j ≡ ((any || in_scans w (get_or scans (j + i) 0)) || any_in w scans (n - (i + 1)) (j + (i + 1)))
 any-more w scans n i j any h e =
     e ∙ ap (λ (b : Bool). any || b) (any_step w scans n i j h)
-    ∙ or_assoc any (in_scans w (get_or scans (j + i) 0)) (any_in w scans (n - (i + 1)) (j + (i + 1)))
+    ∙ sym (or_assoc any (in_scans w (get_or scans (j + i) 0)) (any_in w scans (n - (i + 1)) (j + (i + 1))))
 
 pub any-end : (w : Window) (scans : List ℕ) (n i j : ℕ) (any : Bool) → n ≤ i → any_in w scans n j ≡ (any || any_in w scans (n - i) (j + i)) → any ≡ any_in w scans n j
 unfolding any_in
 any-end w scans n i j any h e = let z : n - i ≡ 0 = omega arith in sym (or-false any) ∙ sym (rw z at e)
 
 -- ---- the search
+
+-- places before r have bins below x, those from n past it on have bins of x at least
+pub record Halved (bins : List ℕ) (from to x r n : ℕ) : Type 0 where
+  pub some : 0 < n
+  pub after : from ≤ r
+  pub before : r + n ≤ to
+  pub low : (j : ℕ) → from ≤ j → j < r → get_or bins j 0 < x
+  pub high : (j : ℕ) → r + n ≤ j → j < to → x ≤ get_or bins j 0
 
 pub rise-le : (bins : List ℕ) (from to j k : ℕ) → Rising bins from to → from ≤ j → j ≤ k → k < to → get_or bins j 0 ≤ get_or bins k 0
 rise-le bins from to j k r a b d = go (ltb j k) refl
@@ -170,6 +176,15 @@ rise-le bins from to j k r a b d = go (ltb j k) refl
     go false t = let e : j ≡ k = omega (arith, ltb-false j k t) in rw e (omega arith)
 
 module _ (bins : List ℕ) (from to x : ℕ) (rise : Rising bins from to) where
+  pub first-none : from ≡ to → FirstAt bins from to x from
+  first-none e =
+      record {
+        after = omega arith;
+        before = omega arith;
+        low = λ j a d. absurd (omega arith);
+        high = λ j a d. absurd (omega arith);
+      }
+
   -- step by step
   pub first-here : (i : ℕ) → from ≤ i → i < to → ((j : ℕ) → from ≤ j → j < i → get_or bins j 0 < x) → x ≤ get_or bins i 0 → FirstAt bins from to x i
   first-here i a b l h =
@@ -177,45 +192,6 @@ module _ (bins : List ℕ) (from to x : ℕ) (rise : Rising bins from to) where
 
   pub first-last : (i : ℕ) → from ≤ i → i ≡ to → ((j : ℕ) → from ≤ j → j < i → get_or bins j 0 < x) → FirstAt bins from to x i
   first-last i a b l = record { after = a; before = omega arith; low = l; high = λ j k d. absurd (omega arith) }
-
-any-default : (l : List ℕ) (i d e : ℕ) → i < length l → get_or l i d ≡ get_or l i e
-any-default [] i d e h = absurd (omega arith)
-any-default (x ∷ l) zero d e h = refl
-any-default (x ∷ l) (suc i) d e h = any-default l i d e (omega arith)
-
-module _ (bins : List ℕ) (from to x : ℕ) (h : from ≤ to) (m : to ≤ length bins) where
-  abbrev part : List ℕ
-  part = take (to - from) (drop from bins)
-
-  part-length : length part ≡ to - from
-  part-length = length-take-le (to - from) (drop from bins) (rw (length-drop from bins) (omega arith))
-
-  part-get : (i d : ℕ) → i < length part → get_or part i d ≡ get_or bins (from + i) 0
-  part-get i d l = any-default part i d 0 l ∙ part_at from to bins i 0 (omega (arith, l, part-length))
-
-  -- those below x come first
-  pub parted : Rising bins from to → IsPartitionedBy (λ b. ltb b x) part
-  parted rise i j d a l e =
-      let low = ltb-true (get_or part j d) x e in
-      let up = rise-le bins from to (from + i) (from + j) rise (omega arith) (omega arith) (omega (arith, l, part-length)) in
-      lt-ltb (get_or part i d) x (omega (arith, low, up, part-get i d (omega arith), part-get j d l))
-
-  pub first_point : (n : ℕ) → n ≤ length part → IsPartitionPoint (λ y. ltb y x ≡ true) (λ y. ltb y x ≡ false) part n → FirstAt bins from to x (from + n)
-  first_point n k p =
-      record {
-        after = omega arith;
-        before = omega (arith, k, part-length);
-        low = λ j a b.
-            let e : from + (j - from) ≡ j = omega arith in
-            let l : j - from < length part = omega arith in
-            let v = ltb-true (get_or part (j - from) 0) x (p.0 (j - from) 0 (omega arith) (omega arith)) in
-            rw (sym e) (omega (arith, v, part-get (j - from) 0 l));
-        high = λ j a b.
-            let e : from + (j - from) ≡ j = omega arith in
-            let l : j - from < length part = omega (arith, part-length) in
-            let v = ltb-false (get_or part (j - from) 0) x (p.1 (j - from) 0 (omega arith) l) in
-            rw (sym e) (omega (arith, v, part-get (j - from) 0 l));
-      }
 
 -- none passes where no place is found
 position-None : (p : ℕ → Bool) (xs : List ℕ) (k d : ℕ) → position p xs ≡ None → k < length xs → p (get_or xs k d) ≡ false
@@ -227,18 +203,18 @@ position-None p xs k d e h = go (ltb (position_or_len p xs) (length xs)) refl e
 
 -- the first that is above x, or the end where there is none
 pub first_by : (bins : List ℕ) (from to x : ℕ) (o : Option ℕ) (r : ℕ) → Rising bins from to → from ≤ to → to ≤ length bins
-    → o ≡ position (λ b. ltb x b) (take (to - from) (drop from bins)) → MatchOption o (r ≡ to) (λ k. r ≡ from + k) → FirstAt bins from to (x + 1) r
+    → o ≡ position (λ b. ltb x b) (take (to - from) (drop from bins)) → r ≡ from + unwrap_or o (to - from) → FirstAt bins from to (x + 1) r
 first_by bins from to x None r rise h m e k =
     let part = take (to - from) (drop from bins) in
-    let len : length part ≡ to - from = length-take-le (to - from) (drop from bins) (rw (length-drop from bins) (omega arith)) in
-    first-last bins from to (x + 1) rise r (omega arith) k
+    let len : length part ≡ to - from = part_length from to bins h m in
+    first-last bins from to (x + 1) rise r (omega arith) (omega (arith, k))
     (λ j a b.
     let i : from + (j - from) ≡ j = omega arith in
     let v = ltb-false x (get_or part (j - from) 0) (position-None (λ b. ltb x b) part (j - from) 0 (sym e) (omega (arith, len))) in
     rw (sym i) (omega (arith, v, part_at from to bins (j - from) 0 (omega arith))))
 first_by bins from to x (Some n) r rise h m e k =
     let part = take (to - from) (drop from bins) in
-    let len : length part ≡ to - from = length-take-le (to - from) (drop from bins) (rw (length-drop from bins) (omega arith)) in
+    let len : length part ≡ to - from = part_length from to bins h m in
     let p = position-Some (λ b. ltb x b) part n 0 (sym e) in
     let l : n < to - from = omega (arith, len, p.0) in
     let here = ltb-true x (get_or part n 0) p.1 in
@@ -305,20 +281,6 @@ module _ (ix : Index) (ck : Checked ix) (f : ℕ) (l : f + 1 < length ix.starts)
         })
 
 -- ---- sums of frames one after another
-
--- the front of a list, told by its values
-pub front-map : (l : List Float) (f : ℕ → Float) (n : ℕ) → n ≤ length l → ((k : ℕ) → k < n → at l k ≡ f k) → take n l ≡ map f (up_to n)
-unfolding up_to
-front-map l f zero h e = refl
-front-map l f (suc n) h e =
-    take-suc l n nan (omega arith)
-    ∙ ap (λ (x : List Float). x ++ (at l n ∷ [])) (front-map l f n (omega arith) (λ k j. e k (omega arith)))
-    ∙ ap (λ (v : Float). map f (up_to n) ++ (v ∷ [])) (e n (omega arith))
-    ∙ sym (map-append f (up_to n) (n ∷ []))
-
--- a list that fills a buffer from its front grows by one
-push : {A : Type 0} (P d : List A) (n : ℕ) (v : A) → length P ≡ n → n < length d → set (P ++ drop n d) n v ≡ (P ++ (v ∷ [])) ++ drop (n + 1) d
-push P d n v e h = rw (add-one, drop-cons d n v, append_assoc) (set_at P (get_or d n v) (drop (suc n) d) v n e)
 
 module _ (ix : Index) (w : Window) (f : ℕ) where
   pub sums_none : frame_sums ix w f 0 ≡ []

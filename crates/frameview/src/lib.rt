@@ -14,7 +14,7 @@ use framebins::inner::Counts;
 use framebins::lists::{Points, Scratch, View};
 use numbers::{Room, Seen};
 use refusal::Refusal;
-use tof::TofScale;
+use tof::{CheckedScale, TofScale};
 
 // Reads the lists of a frame's points.
 fn see(points: Points) -> Seen
@@ -64,5 +64,6 @@ pub fn build_frame_bin_view(
     let room = room_of(view, scratch);
     numbers::check(see(points), global_num_scans, base, scale, room)?;
     let last = global_num_scans.saturating_sub(1);
-    Ok(framebins::inner::put_view(scale, points, last, base as u32, view, scratch))
+    let s = CheckedScale::of(scale);
+    Ok(framebins::inner::put_view(s, points, last, base as u32, view, scratch))
 }

@@ -3,55 +3,43 @@
 
 pub mod numbers;
 
-ghost use Rattle.std.specs.Prelude.{◌≡◌, length};
-ghost use Rattle.limits.specs.Limits.{max_reading};
-ghost use Rattle.numeric.specs.Numeric.{all_in_range};
+ghost use Rattle.std.specs.Prelude.{◌≡◌};
 ghost use Rattle.smoothrow.specs.SmoothRow.{sound_or_none};
 ghost use Rattle.gridrows.specs.Grid.{used_of};
 ghost use Rattle.grid.specs.GridNumber.{seen_in};
 ghost use Rattle.gridrows.specs.Steps.{call_grid};
 ghost use Rattle.grid.specs.Answer.{Answered};
 
-use gridrows::call::GridCall;
+use gridrows::call::{GridCall, Terms};
 use numbers::Seen;
 use params::{FrameBounds, ImDetectParams};
 use record::PeakId;
 use refusal::Refusal;
 use tof::TofScale;
 
-fn used_len(raw: &[f32], smooth: &[f32]) -> usize
-    ensures { result ≡ length (used_of raw.now smooth.now) }
+// The readings that are worked on: the raw ones where there are any, else the smoothed ones.
+fn used_of<'a>(raw: &'a [f32], smooth: &'a [f32]) -> &'a [f32]
+    ensures { result.now ≡ used_of raw.now smooth.now }
 {
-    if raw.len() == 0 {
-        return smooth.len();
-    }
-    raw.len()
-}
-
-fn sound_readings(raw: &[f32], smooth: &[f32]) -> bool
-    ensures { result ≡ all_in_range max_reading (used_of raw.now smooth.now) }
-{
-    if raw.len() == 0 {
-        return numeric::inner::all_in_range(smooth, limits::MAX_READING);
-    }
-    numeric::inner::all_in_range(raw, limits::MAX_READING)
+    if raw.is_empty() { smooth } else { raw }
 }
 
 fn sound_weights(weights: &[f32]) -> bool
     ensures { result ≡ sound_or_none weights.now }
 {
-    (weights.len() == 0) | smoothing::inner::sound_weights(weights)
+    weights.is_empty() | smoothing::inner::sound_weights(weights)
 }
 
 // Reads the lists of a grid.
 fn see(raw: &[f32], smooth: &[f32], scans: &[u32], mobility: &[f32], weights: &[f32]) -> Seen
     ensures { result ≡ seen_in (used_of raw.now smooth.now) scans.now mobility.now weights.now }
 {
+    let used = used_of(raw, smooth);
     Seen {
-        readings: used_len(raw, smooth),
+        readings: used.len(),
         scans: scans.len(),
         mobility: mobility.len(),
-        sound_readings: sound_readings(raw, smooth),
+        sound_readings: numeric::inner::all_in_range(used, limits::MAX_READING),
         sound_mobility: numeric::inner::all_in_range(mobility, limits::MAX_MOBILITY),
         sound_scans: params::inner::all_up_to(limits::MAX_SCAN, scans),
         rising_scans: params::inner::is_rising(scans),
@@ -78,28 +66,20 @@ pub fn detect_im_peaks_from_tof_scan_grid<'a>(
 ) -> Result<usize, Refusal>
     ensures { Answered (call_grid cols data_raw.now «data».now scans.now scale bounds mobility.now p weights.now first) rows out.old out.new scratch.old scratch.new result }
 {
-    let seen = see(data_raw, data, scans, mobility, weights);
-    numbers::check(
-        seen,
-        rows,
-        cols,
-        scale,
-        bounds,
-        p,
-        first,
-        out.len(),
-        scratch.len(),
-    )?;
     let call = GridCall {
-        cols,
         raw: data_raw,
         smooth: data,
         scans,
-        scale,
-        bounds,
         mobility,
-        params: p,
-        first,
+        terms: Terms {
+            cols,
+            scale,
+            bounds,
+            params: p,
+            first,
+        },
     };
-    Ok(gridrows::sized::detect(&call, weights, 0, rows, out, scratch))
+    let seen = see(data_raw, data, scans, mobility, weights);
+    numbers::check(seen, rows, call.terms, out.len(), scratch.len())?;
+    Ok(gridrows::sized::detect(&call, weights, 0..rows, out, scratch))
 }

@@ -6,8 +6,8 @@ ghost use Rattle.params.specs.Params.{sound_params, sound_bounds, enough_ids};
 ghost use Rattle.tof.specs.Tof.{sound_step, sound_ends};
 ghost use Rattle.grid.specs.GridNumber.{checks_of};
 
-use params::{FrameBounds, ImDetectParams};
-use record::{ImPeak1D, PeakId};
+use gridrows::call::Terms;
+use record::ImPeak1D;
 use refusal::Refusal;
 use tof::TofScale;
 
@@ -45,21 +45,14 @@ fn same_sizes(s: Seen, rows: usize, cols: usize, bins: u32) -> bool
         & (rows == bins as usize)
 }
 
-fn sound_values(
-    p: ImDetectParams,
-    mobility: bool,
-    bounds: FrameBounds,
-    step: u32,
-    first: PeakId,
-    peaks: usize,
-) -> bool
-    ensures { result ≡ (sound_params p && mobility && sound_bounds bounds && sound_step step && enough_ids first peaks) }
+fn sound_values(s: Seen, t: Terms, peaks: usize) -> bool
+    ensures { result ≡ (sound_params t.params && s.sound_mobility && sound_bounds t.bounds && sound_step t.scale.tof_step && enough_ids t.first peaks) }
 {
-    p.is_sound()
-        & mobility
-        & bounds.is_sound()
-        & tof::inner::sound_step(step)
-        & params::inner::enough_ids(first, peaks)
+    t.params.is_sound()
+        & s.sound_mobility
+        & t.bounds.is_sound()
+        & tof::inner::sound_step(t.scale.tof_step)
+        & params::inner::enough_ids(t.first, peaks)
 }
 
 fn sound_axis(scans: bool, scale: TofScale) -> bool
@@ -70,20 +63,11 @@ fn sound_axis(scans: bool, scale: TofScale) -> bool
 
 // Refuses with the lowest number that applies; `room` and `space` are the lengths of the lent list and of the lent scratch.
 #[tactic(auto, unfolding(refusal::specs::Refusal::first_of))]
-pub fn check(
-    s: Seen,
-    rows: usize,
-    cols: usize,
-    scale: TofScale,
-    bounds: FrameBounds,
-    p: ImDetectParams,
-    first: PeakId,
-    room: usize,
-    space: usize,
-) -> Result<(), Refusal>
-    ensures { number_in result ≡ first_of (checks_of s rows cols scale bounds p first room space) }
+pub fn check(s: Seen, rows: usize, t: Terms, room: usize, space: usize) -> Result<(), Refusal>
+    ensures { number_in result ≡ first_of (checks_of s rows t.cols t.scale t.bounds t.params t.first room space) }
 {
-    if !same_sizes(s, rows, cols, scale.num_bins) {
+    let cols = t.cols;
+    if !same_sizes(s, rows, cols, t.scale.num_bins) {
         return Err(Refusal::Lengths);
     }
     if (rows > limits::MAX_ROWS) | (cols > limits::MAX_SAMPLES) {
@@ -93,10 +77,10 @@ pub fn check(
         return Err(Refusal::Reading);
     }
     let peaks = rows * params::inner::most_peaks(cols);
-    if !sound_values(p, s.sound_mobility, bounds, scale.tof_step, first, peaks) {
+    if !sound_values(s, t, peaks) {
         return Err(Refusal::Value);
     }
-    if !sound_axis(s.sound_scans, scale) {
+    if !sound_axis(s.sound_scans, t.scale) {
         return Err(Refusal::Axis);
     }
     if !s.sound_weights {
@@ -111,7 +95,7 @@ pub fn check(
     if space < cols {
         return Err(Refusal::Scratch);
     }
-    if !tof::inner::agrees(scale) {
+    if !tof::inner::agrees(t.scale) {
         return Err(Refusal::Scale);
     }
     Ok(())

@@ -32,6 +32,7 @@ use Rattle.row.proofs.Laws as rows
 use Rattle.tof.specs.Tof.{row_place}
 use Rattle.gridrows.specs.Grid.{Grid, used_of, row_of, listed_in, words_in, count_from, words_from}
 use Rattle.gridrows.specs.Steps.{Handed, RowPut, RowReady, RowDone, Ready, Done, numbered}
+use Rattle.numeric.proofs.Laws.{product-step}
 
 -- ---- which readings are worked on
 pub used_le : (raw smooth : List Float) → length (used_of raw smooth) ≤ length raw + length smooth
@@ -88,9 +89,6 @@ listed-bound g r =
     let l : length z ≤ g.cols = rw length-take (omega arith) in
     let e : length (searched g.weights z) ≡ length z = searched-length g.weights z in
     omega (arith, kept-count g.params (searched g.weights z) z)
-
-product-step : (k m : ℕ) → (k + 1) * m ≡ k * m + m
-product-step k m = let e : (k + 1) * m ≡ k * m + 1 * m = add-mul k 1 m in omega arith
 
 pub count-bound : (g : Grid) (from k : ℕ) → count_from g from k ≤ k * most_peaks g.cols
 unfolding count_from

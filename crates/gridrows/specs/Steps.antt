@@ -39,7 +39,7 @@ call_grid cols raw smooth scans scale bounds mobility p weights first =
 
 abbrev pub grid_in : GridCall → List Float → Grid
 grid_in c weights =
-    call_grid c.cols c.raw.now c.smooth.now c.scans.now c.scale c.bounds c.mobility.now c.params weights c.first
+    call_grid c.terms.cols c.raw.now c.smooth.now c.scans.now c.terms.scale c.terms.bounds c.mobility.now c.terms.params weights c.terms.first
 
 -- the same grid with weights
 abbrev pub with_weights : List Float → Grid → Grid

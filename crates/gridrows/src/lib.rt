@@ -2,6 +2,7 @@
 #![tactic(auto)]
 
 pub mod call;
+pub mod lent;
 pub mod rows;
 pub mod sized;
 pub mod source;

@@ -5,50 +5,48 @@ ghost use Rattle.rowsearch.specs.Room.{Sizes};
 ghost use Rattle.gridrows.specs.Steps.{grid_in, Ready, Done};
 
 use super::call::GridCall;
-use rowsearch::scratch::Scratch;
+use super::lent::RowScratch;
+use rowsearch::scratch::Arrays;
 use smoothrow::kernel::Kernel;
+use std::ops::Range;
 
-// The records of the peaks of the rows from `from` to `to`, with room for the search of rows of N samples. It is no part of its callers,
+// The records of the peaks of some rows, with room for the search of rows of N samples. It is no part of its callers,
 // so that each has the stack of one size alone. There is no heap, so the lists stand in its frame, as those of `row::inner::list_in` do.
 #[inline(never)]
-fn detect_in<const N: usize, const B: usize, const F: usize>(
+fn detect_in<const N: usize, const B: usize>(
     call: &GridCall<'_>,
     kernel: &Kernel<'_>,
-    from: usize,
-    to: usize,
+    rows: Range<usize>,
     out: &mut [u32],
     y: &mut [f32],
 ) -> usize
-    requires rows { Ready (grid_in call.now kernel.now.weights.now) from to (length out.old) × (call.now.cols ≤ length y.old) × (call.now.cols ≤ N) }
-    requires sizes { Sizes N B F }
-    ensures done { Done as_words (grid_in call.now kernel.now.weights.now) from to out.old out.new result }
-    ensures past { drop call.now.cols y.new ≡ drop call.now.cols y.old }
+    requires rows { Ready (grid_in call.now kernel.now.weights.now) rows.start rows.end (length out.old) × (call.now.terms.cols ≤ length y.old) × (call.now.terms.cols ≤ N) }
+    requires sizes { Sizes N B }
+    ensures done { Done as_words (grid_in call.now kernel.now.weights.now) rows.start rows.end out.old out.new result }
+    ensures past { drop call.now.terms.cols y.new ≡ drop call.now.terms.cols y.old }
 {
-    let mut turns = [0u32; N];
-    let mut bases = [0u32; B];
-    let mut found = [0u32; F];
-    let mut scratch = Scratch {
-        samples: N,
-        turns: &mut turns,
-        bases: &mut bases,
-        found: &mut found,
+    let mut lists = Arrays::<N, B>::new();
+    let mut scratch = lists.lend(N);
+    let mut lent = RowScratch {
+        z: &mut [],
+        y,
+        search: &mut scratch,
     };
-    super::rows::detect_rows(call, kernel, from, to, out, &mut [], y, &mut scratch)
+    super::rows::detect_rows(call, kernel, rows, out, &mut lent)
 }
 
-// The records of the peaks of the rows from `from` to `to`, for rows of at most 16,384 samples, smoothed by the weights where there are
+// The records of the peaks of some rows, for rows of at most 16,384 samples, smoothed by the weights where there are
 // any. `y` is scratch for a smoothed row.
 pub fn detect(
     call: &GridCall<'_>,
     weights: &[f32],
-    from: usize,
-    to: usize,
+    rows: Range<usize>,
     out: &mut [u32],
     y: &mut [f32],
 ) -> usize
-    requires { Ready (grid_in call.now weights.now) from to (length out.old) × (call.now.cols ≤ length y.old) × (call.now.cols ≤ 16384) }
-    ensures done { Done as_words (grid_in call.now weights.now) from to out.old out.new result }
-    ensures past { drop call.now.cols y.new ≡ drop call.now.cols y.old }
+    requires { Ready (grid_in call.now weights.now) rows.start rows.end (length out.old) × (call.now.terms.cols ≤ length y.old) × (call.now.terms.cols ≤ 16384) }
+    ensures done { Done as_words (grid_in call.now weights.now) rows.start rows.end out.old out.new result }
+    ensures past { drop call.now.terms.cols y.new ≡ drop call.now.terms.cols y.old }
 {
     let m = weights.len();
     let mut divided = [0f32; limits::MAX_WEIGHTS];
@@ -57,8 +55,8 @@ pub fn detect(
         weights,
         divided: &divided[..m],
     };
-    if call.cols <= 1024 {
-        return detect_in::<1024, 800, 4096>(call, &kernel, from, to, out, y);
+    if call.terms.cols <= 1024 {
+        return detect_in::<1024, 800>(call, &kernel, rows, out, y);
     }
-    detect_in::<16384, 8480, 65536>(call, &kernel, from, to, out, y)
+    detect_in::<16384, 8480>(call, &kernel, rows, out, y)
 }

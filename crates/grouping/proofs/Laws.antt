@@ -9,7 +9,7 @@ use native.Mathlib.Omega.{arith}
 use native.Mathlib.Numerals.{add-one}
 use Rattle.std.proofs.lemmas.List.{get_or-map}
 use lib.ListN.{length, get_or, take, drop, set, length-append, length-map, length-drop, drop_of_length-le, take-append-drop}
-use lib.Seq.{take-suc, get_or-drop, get_or-take, length-take-le, drop-cons, take_at, drop-append-add, drop-drop}
+use lib.Seq.{take-suc, get_or-drop, get_or-take, length-take-le, drop-cons}
 use borrow.Author.Tests.{eqb-true}
 use lib.Dec.{eqb}
 use Rattle.std.specs.Prelude.{Option, Some, None, nat_eq}
@@ -30,17 +30,9 @@ use Rattle.merging.specs.Merging.{merged}
 use Rattle.grouping.specs.Grouping.{bucket_by, peaks_at, follows, groups_from, groups, group_peaks}
 use Rattle.grouping.specs.Walk.{part, Gathered, Columned, Cut, numbered, marked, Grouped}
 use Rattle.grouping.proofs.GroupingLaws.{groups-join, groups-close}
+use Rattle.digits.proofs.UpTo.{fill-behind}
 
 -- ---- lists
-
--- words R put right behind the words P that a buffer d has been filled with
-pub fill-behind : {A : Type 0} (P R d out : List A) (a r : ℕ) → length P ≡ a → out ≡ P ++ drop a d
-    → take a out ++ (R ++ drop (a + r) out) ≡ (P ++ R) ++ drop (a + r) d
-fill-behind P R d out a r h e =
-    let front : take a out ≡ P = ap (take a) e ∙ take_at P (drop a d) a h in
-    let back : drop (a + r) out ≡ drop (a + r) d =
-    ap (drop (a + r)) e ∙ rw (← h, drop-append-add, drop-drop) in
-    rw (front, back) (sym (append_assoc P R (drop (a + r) d)))
 
 -- ---- groups
 
@@ -243,3 +235,8 @@ module _ (rule : KeyRule) (params : StitchParams) (ps : List ImPeak1D) (order me
     walk_end l =
         let all : groups rule params ps order ≡ w.closed = w.whole ∙ ap (λ (qs : List ℕ). w.closed ++ groups rule params ps qs) (drop_of_length-le order {i = i} l) ∙ append-nil w.closed in
         record { counted = w.count ∙ ap length (sym all); records = rw all w.records; marks = rw all w.marks }
+
+-- what is told of two peaks as they are read is told of the two that they are
+pub told-join : (params : StitchParams) (s : Spans) (older : List ImPeak1D) {a b last p : ImPeak1D} {r : Bool} → a ≡ last → b ≡ p
+    → ((ps : List ImPeak1D) → Covers s (a ∷ ps) → r ≡ may_join params (a ∷ ps) b) → Covers s (last ∷ older) → r ≡ may_join params (last ∷ older) p
+told-join params s older e f told w = rw (← e, ← f) (told older (rw e w))

@@ -15,6 +15,7 @@ use keys::inner::Bucket;
 use matching::StitchParams;
 use matching::inner::Spans;
 use merging::inner::Merging;
+use peaklist::Records;
 use record::ImPeak1D;
 
 // The bucket of a peak; a pass by another rule than the first has one for all.
@@ -43,25 +44,25 @@ fn is_of_bucket(b: Bucket, p: ImPeak1D, rule: KeyRule) -> bool
     }
 }
 
-// Where the group ends that starts at place i of n peaks. The count is that of the places, which the caller has; `sorted` may go on behind.
-fn group_end(sorted: &[u32], n: usize, i: usize, rule: KeyRule, params: StitchParams) -> usize
-    requires { (i < n) × (n * size ≤ length sorted.now) }
-    ensures { (i < result) × (result ≤ n) × ((ps : List PeakT) (order : List ℕ) → length order ≡ n → Gathered ps sorted.now order → Cut rule params ps order i result) }
+// Where the group ends that starts at place i.
+fn group_end(sorted: Records<'_>, i: usize, rule: KeyRule, params: StitchParams) -> usize
+    requires { i < sorted.count }
+    ensures { (i < result) × (result ≤ sorted.entry.count) × ((ps : List PeakT) (order : List ℕ) → length order ≡ sorted.entry.count → Gathered ps sorted.entry.words.now order → Cut rule params ps order i result) }
 {
-    let first = record::inner::peak_at(sorted, i);
+    let first = sorted.peak(i);
     let bucket = bucket_by(first, rule);
     let mut spans = Spans::of_one(first);
     // the place at which a test fails is the answer, and a test looks at a place and the one before it
-    for k in i + 1..n {
-        if !is_of_bucket(bucket, record::inner::peak_at(sorted, k), rule) {
+    for k in i + 1..sorted.count {
+        if !is_of_bucket(bucket, sorted.peak(k), rule) {
             return k;
         }
         if !matching::inner::joins_at(sorted, k, spans, params) {
             return k;
         }
-        spans = spans.widened(record::inner::peak_at(sorted, k));
+        spans = spans.widened(sorted.peak(k));
     }
-    n
+    sorted.count
 }
 
 // What the merge of the peaks of some records keeps of them; there is one at least.
@@ -110,15 +111,18 @@ pub fn put_groups(
     ensures { (ps : List PeakT) → Gathered ps sorted.now order.now
         → Grouped rule params ps order.now merged.old column.old result merged.new column.new }
 {
-    let n = order.len();
+    let records = Records {
+        words: sorted,
+        count: order.len(),
+    };
     let mut number = 0usize;
     let mut i = 0usize;
     // a step goes over a whole group, whose end is found on the way: no range or iterator has it beforehand
-    while i < n {
-        let end = group_end(sorted, n, i, rule, params);
+    while i < records.count {
+        let end = group_end(records, i, rule, params);
         put_number(&order[i..end], number as u32, column);
-        let records = &sorted[i * ImPeak1D::WORDS..end * ImPeak1D::WORDS];
-        put_merged(merged, number, gather_part(records));
+        let part = &sorted[i * ImPeak1D::WORDS..end * ImPeak1D::WORDS];
+        put_merged(merged, number, gather_part(part));
         number += 1;
         i = end;
     }

@@ -18,7 +18,8 @@ pub enum Stage {
     Ended,
 }
 
-// What has been read of a line: its whole words, at the front of a lent list, the word that is being read, and how the line stands.
+// What has been read of a line: its whole words, at the front of a lent list, the word that is being read, and how the line stands. The
+// list and its count stand side by side: a slice of the words so far could not grow in the list.
 #[derive(Drop)]
 pub struct Reading<'a> {
     words: &'a mut [u32],

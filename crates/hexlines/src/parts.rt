@@ -8,6 +8,13 @@ pub fn word(words: &[u32], i: usize) -> u32
     words.get(i).copied().unwrap_or(0)
 }
 
+// The same word as a float.
+pub fn float(words: &[u32], i: usize) -> f32
+    ensures { result ≡ float_in words.now i }
+{
+    numeric::float_of(word(words, i))
+}
+
 // What is left of a line that is taken apart from its front: its words, and floats at the same places.
 #[derive(Clone, Copy)]
 pub struct Line<'a> {
@@ -49,6 +56,22 @@ impl<'a> Line<'a> {
         self.take_words(n)?;
         Some(floats)
     }
+
+    // Takes the next list, whose length is word i of a head.
+    pub fn next_words(&mut self, head: &[u32], i: usize) -> Option<&'a [u32]>
+        ensures enough { IsSome result ↔ (slice_index head.now i ≤ length self.old.words.now) × (slice_index head.now i ≤ length self.old.floats.now) }
+        ensures taken { MatchOption result (IsLeft 0 self.old self.new) (λ list. (list.now ≡ take (slice_index head.now i) self.old.words.now) × IsLeft (slice_index head.now i) self.old self.new) }
+    {
+        self.take_words(word(head, i) as usize)
+    }
+
+    // Takes the next list, of floats.
+    pub fn next_floats(&mut self, head: &[u32], i: usize) -> Option<&'a [f32]>
+        ensures enough { IsSome result ↔ (slice_index head.now i ≤ length self.old.words.now) × (slice_index head.now i ≤ length self.old.floats.now) }
+        ensures taken { MatchOption result (IsLeft 0 self.old self.new) (λ list. (list.now ≡ take (slice_index head.now i) self.old.floats.now) × IsLeft (slice_index head.now i) self.old self.new) }
+    {
+        self.take_floats(word(head, i) as usize)
+    }
 }
 
 // The front of a lent list, all of it where it is shorter.
@@ -65,7 +88,7 @@ pub fn spread<const ROOM: usize>(words: &[u32]) -> [f32; ROOM]
 {
     let mut floats = [0f32; ROOM];
     for (i, x) in floats.iter_mut().enumerate() {
-        *x = numeric::float_of(word(words, i));
+        *x = float(words, i);
     }
     floats
 }

@@ -4,7 +4,7 @@ use mathlib.Core.Bool.{Bool, true, false}
 use mathlib.Core.List.{List, ◌++◌, append_assoc}
 use Prim.Native.Nat.{ℕ, ◌+◌, ◌-◌, ◌*◌, ◌/◌, ◌<◌, ◌≤◌}
 use native.Mathlib.Omega.{arith}
-use native.Mathlib.Nat.{add-mul, div-eq_of_lt-le, le-div_iff_mul-le, div-lt_iff_lt-mul}
+use native.Mathlib.Nat.{add-mul, div-eq_of_lt-le, le-div_iff_mul-le}
 use native.Mathlib.Numerals.{add-one}
 use borrow.Author.Tests.{ltb-true, ltb-false, eq-eqb, ne_eqb}
 use lib.Dec.{ltb, eqb}
@@ -32,9 +32,6 @@ module _ (k w x : ℕ) (some : 0 < w) where
       go false e =
           let far : k + 1 ≤ x / w = (le-div_iff_mul-le some).1 (rw next_start (omega (arith, ltb-false (x - k * w) w e))) in
           sym (ne_eqb k (x / w) (λ (d : k ≡ x / w). omega arith))
-
-  pub before-start : x < k * w → false ≡ eqb k (x / w)
-  before-start h = let near : x / w < k = (div-lt_iff_lt-mul some).1 h in sym (ne_eqb k (x / w) (λ (d : k ≡ x / w). omega arith))
 
 -- words R written behind the words P at the front of a buffer
 record-step : (P R out d last : List ℕ) (a r : ℕ) → length P ≡ a → out ≡ P ++ drop a d

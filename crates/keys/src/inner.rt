@@ -1,12 +1,12 @@
 // The table of keys: a row of words for each of the first records of a list.
 ghost use Rattle.std.specs.Prelude.{◌≡◌, [], ◌∷◌, ◌++◌, ◌≤◌, ◌<◌, ◌+◌, ◌*◌, ◌/◌, eqb, length, drop};
-ghost use Rattle.record.specs.Record.{size};
-ghost use Rattle.peaklist.specs.PeakList.{peaks_of};
+ghost use Rattle.peaklist.specs.Records.{peaks_in};
 ghost use Rattle.keys.specs.declared.KeyRule.TheVariants.{First, Second, Identity};
 ghost use Rattle.keys.specs.Keys.{group_in, group_there, group_number, bucket_of, is_same_bucket, key_of, width_of, key_table};
 
 use super::KeyRule;
 use matching::StitchParams;
+use peaklist::Records;
 use record::ImPeak1D;
 
 // The bucket of a peak in the first pass: the window group, which is missing where crossing is allowed; which interval of scans and which
@@ -55,10 +55,7 @@ fn falls_into(k: u32, width: u64, x: u32) -> bool
 {
     let start = u64::from(k) * width;
     let x = u64::from(x);
-    if start <= x {
-        return x - start < width;
-    }
-    false
+    start <= x && x - start < width
 }
 
 impl Bucket {
@@ -145,16 +142,15 @@ impl KeyRule {
     }
 }
 
-// Writes the keys of the first n records to the front of `table`. The count is handed in: the callers have it, and the words of a slice
-// would be divided by those of a record to find it again.
-pub fn put_keys(list: &[u32], n: usize, rule: KeyRule, table: &mut [u32])
-    requires { (n * size ≤ length list.now) × (n * width_of rule ≤ length table.old) }
-    ensures { table.new ≡ key_table rule (peaks_of list.now n) ++ drop (n * width_of rule) table.old }
+// Writes the keys of records to the front of `table`.
+pub fn put_keys(records: Records<'_>, rule: KeyRule, table: &mut [u32])
+    requires { records.count * width_of rule ≤ length table.old }
+    ensures { table.new ≡ key_table rule (peaks_in records.entry) ++ drop (records.entry.count * width_of rule) table.old }
 {
     let width = rule.width();
-    // one number for a record of one list and a row of the other, which differ in width
-    for k in 0..n {
+    // By place: of what is written through chunks the proof knows its length alone.
+    for k in 0..records.count {
         let at = k * width;
-        rule.put(record::inner::peak_at(list, k), &mut table[at..]);
+        rule.put(records.peak(k), &mut table[at..]);
     }
 }

@@ -2,22 +2,23 @@
 use mathlib.Core.Path.{◌≡◌, refl, sym, ◌∙◌, ap}
 use mathlib.Core.Bool.{Bool, true, false, cond, not, ◌&&◌, ◌||◌}
 use mathlib.Core.List.{List, [], ◌∷◌}
-use Prim.Native.Nat.{ℕ, suc, ◌≤◌, ◌<◌, ◌+◌, ◌-◌}
+use Prim.Native.Nat.{ℕ, suc, ◌≤◌, ◌<◌, ◌+◌}
 use native.Mathlib.Omega.{arith}
-use borrow.Author.Tests.{ltb-true, ltb-false, lt-leb, le-leb}
-use lib.Dec.{ltb, leb, eqb}
-use lib.ListN.{length, take, drop, length-drop}
-use lib.Seq.{drop-drop, take_all}
+use borrow.Author.Tests.{lt-leb, le-leb}
+use lib.Dec.{leb, eqb}
+use native.Mathlib.Numerals.{add-one}
+use lib.ListN.{length, get_or, drop, drop_of_length-le}
+use lib.Seq.{drop-cons}
 use Rattle.refusal.proofs.Bools.{clash}
 use Rattle.limits.specs.Limits.{max_count, last_row}
 use Rattle.table.specs.Sizes.{max_number, max_fields}
-use Rattle.table.specs.Text.{comma, fields, comma_at, is_number, all_numbers, is_row, row_text, params_text, params_from, params_of}
+use Rattle.table.specs.Text.{comma, onto, fields, is_number, all_numbers, is_row, row_text, params_text, params_from, params_of}
 use Rattle.std.proofs.Common.{Some, None, Result, Ok, Err}
 use Rattle.std.specs.Result.{is_ok, is_err, IfOk}
 use Rattle.table.specs.declared.RowsSoFar.{RowsSoFar}
 use Rattle.table.specs.declared.Progress.{Progress}
 use Rattle.table.specs.Table.{is_next, opened, counted, verdict}
-use Rattle.table.proofs.Laws.{split-comma, split-none}
+use Rattle.linefault.specs.declared.Kind.{Kind}
 use Rattle.linefault.specs.Faults.{limit_of, all_within, refuses}
 
 -- ---- results
@@ -25,56 +26,65 @@ pub err_or-ok : {A E : Type 0} (r : Result A E) (P : A → Type 0) → is_err r 
 err_or-ok (Ok v) P h = clash true refl (sym h)
 err_or-ok (Err e) P h = (refl, tt)
 
--- ---- a field
+-- ---- the fields of a line
+-- their bytes, and a comma or the end behind each
+unfoldable pub widths : List (List ℕ) → ℕ
+widths [] = 0
+widths (f ∷ fs) = length f + 1 + widths fs
 
-pub comma-le : (l : List ℕ) → comma_at l ≤ length l
-unfolding comma_at
-comma-le [] = omega arith
-comma-le (b ∷ bs) = go (eqb b comma) (comma-le bs)
+widths-fields : (bs : List ℕ) → widths (fields bs) ≡ length bs + 1
+unfolding widths fields
+widths-fields [] = refl
+widths-fields (b ∷ bs) = go (eqb b comma) (fields bs) (widths-fields bs)
   where
-    go : (e : Bool) → comma_at bs ≤ length bs → cond e 0 (suc (comma_at bs)) ≤ suc (length bs)
-    go true h = omega arith
-    go false h = omega arith
+    go : (e : Bool) (fs : List (List ℕ)) → widths fs ≡ length bs + 1 → widths (cond e ([] ∷ fs) (onto b fs)) ≡ suc (length bs) + 1
+    go true fs h = omega (arith, h)
+    go false [] h = absurd (omega (arith, h))
+    go false (f ∷ fs) h = omega (arith, h)
 
--- ---- the field from a place to the next comma, and those behind it
-module _ (first : Bool) (k : ℕ) (line : List ℕ) (from to : ℕ) (h : from ≤ length line) (e : to ≡ from + comma_at (drop from line)) where
-  last-field : to ≡ length line → fields (drop from line) ≡ take (to - from) (drop from line) ∷ []
-  last-field z =
-      let l = length-drop from line in
-      split-none (drop from line) (omega (arith, e, l)) ∙ ap (λ (f : List ℕ). f ∷ []) (sym (take_all (to - from) (drop from line) (omega (arith, l))))
+-- the first n fields are numbers to their limits, and the next one begins at a place
+pub record Seen (kind : Kind) (line : List ℕ) (n at : ℕ) : Type 0 where
+  pub within : all_within kind 1 (fields line) ≡ all_within kind (n + 1) (drop n (fields line))
+  pub place : at + widths (drop n (fields line)) ≡ length line + 1
 
-  next_field : to < length line → fields (drop from line) ≡ take (to - from) (drop from line) ∷ fields (drop (to + 1) line)
-  next_field z =
-      let l = length-drop from line in
-      let n : to - from ≡ comma_at (drop from line) = omega (arith, e) in
-      let p : from + suc (comma_at (drop from line)) ≡ to + 1 = omega (arith, e) in
-      split-comma (drop from line) (omega (arith, e, l)) ∙ rw (n, drop-drop (suc (comma_at (drop from line))) from line, p)
+pub seen-none : (kind : Kind) (line : List ℕ) → Seen kind line 0 0
+seen-none kind line = record { within = refl; place = omega (arith, widths-fields line) }
 
-  pub within-bad : to ≤ length line → is_number (limit_of first k) (take (to - from) (drop from line)) ≡ false → all_within first k (fields (drop from line)) ≡ false
+module _ (kind : Kind) (line : List ℕ) (n at : ℕ) (s : Seen kind line n at) where
+  -- the next field
+  module _ (f : List ℕ) (h : n < length (fields line)) (e : f ≡ get_or (fields line) n f) where
+    rest : drop n (fields line) ≡ f ∷ drop (n + 1) (fields line)
+    rest = rw add-one (drop-cons (fields line) n f h) ∙ ap (λ (x : List ℕ). x ∷ drop (n + 1) (fields line)) (sym e)
+
+    pub seen-room : at + (length f + 1) ≤ length line + 1
+    unfolding widths
+    seen-room = let p : at + widths (f ∷ drop (n + 1) (fields line)) ≡ length line + 1 = rw rest at s.place in omega (arith, p)
+
+    pub seen-next : is_number (limit_of kind (n + 1)) f ≡ true → Seen kind line (n + 1) (at + (length f + 1))
+    unfolding all_within widths
+    seen-next g =
+        let p : at + widths (f ∷ drop (n + 1) (fields line)) ≡ length line + 1 = rw rest at s.place in
+        let w : all_within kind 1 (fields line) ≡ all_within kind (n + 1) (f ∷ drop (n + 1) (fields line)) = rw rest at s.within in
+        record { within = w ∙ rw g; place = omega (arith, p) }
+
+    pub seen-bad : is_number (limit_of kind (n + 1)) f ≡ false → all_within kind 1 (fields line) ≡ false
+    unfolding all_within
+    seen-bad g =
+        let w : all_within kind 1 (fields line) ≡ all_within kind (n + 1) (f ∷ drop (n + 1) (fields line)) = rw rest at s.within in
+        w ∙ rw g
+
+  pub seen-all : n ≡ length (fields line) → all_within kind 1 (fields line) ≡ true
   unfolding all_within
-  within-bad z b = go (ltb to (length line)) refl
-    where
-      go : (c : Bool) → ltb to (length line) ≡ c → all_within first k (fields (drop from line)) ≡ false
-      go true q = rw (next_field (ltb-true to (length line) q), b)
-      go false q = let g = ltb-false to (length line) q in rw (last-field (omega arith), b)
-
-  pub within-last : to ≡ length line → is_number (limit_of first k) (take (to - from) (drop from line)) ≡ true → (all_within first k (fields (drop from line)) ≡ true) × (length (fields (drop from line)) ≡ 1)
-  unfolding all_within
-  within-last z b = rw (last-field z, b) (refl, refl)
-
-  pub within-next : to < length line → is_number (limit_of first k) (take (to - from) (drop from line)) ≡ true
-      → (all_within first k (fields (drop from line)) ≡ all_within first (k + 1) (fields (drop (to + 1) line))) × (length (fields (drop from line)) ≡ suc (length (fields (drop (to + 1) line))))
-  unfolding all_within
-  within-next z b = rw (next_field z, b) (refl, refl)
+  seen-all e = let g : length (fields line) ≤ n = omega (arith, e) in s.within ∙ rw (drop_of_length-le (fields line) g)
 
 -- ---- what a line is answered with
-rows_alike : (k : ℕ) (fs : List (List ℕ)) → all_within false k fs ≡ all_numbers max_number fs
+rows_alike : (k : ℕ) (fs : List (List ℕ)) → all_within Kind.Row k fs ≡ all_numbers max_number fs
 unfolding all_within all_numbers
 rows_alike k [] = refl
 rows_alike k (f ∷ fs) = rw (rows_alike (k + 1) fs)
 
 -- a row
-pub row-bad : (s : RowsSoFar) (line : List ℕ) → all_within false 1 (fields line) ≡ false → refuses (counted s (row_text line)) ≡ true
+pub row-bad : (s : RowsSoFar) (line : List ℕ) → all_within Kind.Row 1 (fields line) ≡ false → refuses (counted s (row_text line)) ≡ true
 unfolding is_row
 row-bad s line b = let n = sym (rows_alike 1 (fields line)) ∙ b in rw n
 
@@ -93,7 +103,7 @@ row_out s line b = go (is_row line)
     go true = rw b
     go false = refl
 
-pub row-good : (s : RowsSoFar) (line : List ℕ) → all_within false 1 (fields line) ≡ true → length (fields line) ≤ max_fields → is_next s (length (fields line)) ≡ true → refuses (counted s (row_text line)) ≡ false
+pub row-good : (s : RowsSoFar) (line : List ℕ) → all_within Kind.Row 1 (fields line) ≡ true → length (fields line) ≤ max_fields → is_next s (length (fields line)) ≡ true → refuses (counted s (row_text line)) ≡ false
 unfolding is_row
 row-good s line a h b = let n = sym (rows_alike 1 (fields line)) ∙ a in rw (n, le-leb (length (fields line)) max_fields h, b)
 
@@ -104,7 +114,7 @@ three true true false u v w = refl
 three true false c u v w = refl
 three false b c u v w = refl
 
-params-three : (fs : List (List ℕ)) → all_within true 1 fs ≡ false → refuses (opened (params_from fs)) ≡ true
+params-three : (fs : List (List ℕ)) → all_within Kind.Params 1 fs ≡ false → refuses (opened (params_from fs)) ≡ true
 unfolding params_from all_within
 params-three [] h = refl
 params-three (a ∷ []) h = refl
@@ -120,7 +130,7 @@ params-count (a ∷ b ∷ []) h = refl
 params-count (a ∷ b ∷ c ∷ []) h = absurd (h refl)
 params-count (a ∷ b ∷ c ∷ d ∷ fs) h = refl
 
-params-right : (fs : List (List ℕ)) → all_within true 1 fs ≡ true → length fs ≡ 3 → refuses (opened (params_from fs)) ≡ false
+params-right : (fs : List (List ℕ)) → all_within Kind.Params 1 fs ≡ true → length fs ≡ 3 → refuses (opened (params_from fs)) ≡ false
 unfolding params_from all_within
 params-right [] h n = absurd (omega arith)
 params-right (a ∷ []) h n = absurd (omega arith)
@@ -129,7 +139,7 @@ params-right (a ∷ b ∷ c ∷ []) h n = three (is_number max_number a) (is_num
 params-right (a ∷ b ∷ c ∷ d ∷ fs) h n = absurd (omega arith)
 
 module _ (line : List ℕ) where
-  pub first-bad : all_within true 1 (fields line) ≡ false → refuses (opened (params_of line)) ≡ true
+  pub first-bad : all_within Kind.Params 1 (fields line) ≡ false → refuses (opened (params_of line)) ≡ true
   unfolding params_of
   first-bad h = params-three (fields line) h
 
@@ -137,7 +147,7 @@ module _ (line : List ℕ) where
   unfolding params_of
   first_count h = params-count (fields line) h
 
-  pub first_good : all_within true 1 (fields line) ≡ true → length (fields line) ≡ 3 → refuses (opened (params_of line)) ≡ false
+  pub first_good : all_within Kind.Params 1 (fields line) ≡ true → length (fields line) ≡ 3 → refuses (opened (params_of line)) ≡ false
   unfolding params_of
   first_good h n = params-right (fields line) h n
 

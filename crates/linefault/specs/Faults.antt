@@ -6,15 +6,17 @@ use Rattle.table.specs.Text.{is_number}
 use Rattle.table.specs.declared.Progress.{Progress}
 use Rattle.table.specs.declared.Verdict.{Verdict}
 use Rattle.table.specs.Table.{verdict}
+use Rattle.linefault.specs.declared.Kind.{Kind}
 
 -- the highest number of field k of the first line or of a row, counted from 1
-abbrev pub limit_of : Bool → ℕ → ℕ
-limit_of first k = cond (first && ltb 1 k) max_count max_number
+abbrev pub limit_of : Kind → ℕ → ℕ
+limit_of Kind.Params k = cond (ltb 1 k) max_count max_number
+limit_of Kind.Row k = max_number
 
 -- all fields, the first of which is field k, are numbers to their limits
-unfoldable pub all_within : Bool → ℕ → List (List ℕ) → Bool
-all_within first k [] = true
-all_within first k (f ∷ fs) = is_number (limit_of first k) f && all_within first (k + 1) fs
+unfoldable pub all_within : Kind → ℕ → List (List ℕ) → Bool
+all_within kind k [] = true
+all_within kind k (f ∷ fs) = is_number (limit_of kind k) f && all_within kind (k + 1) fs
 
 -- a verdict is the refusal
 abbrev pub refuses : Verdict → Bool

@@ -3,7 +3,7 @@
 #![tactic(auto)]
 
 ghost use Rattle.std.specs.Prelude.{◌≡◌, true, false, not, ◌≤◌, ◌<◌, ◌+◌, length, drop, is_ok, is_err, is_some, IfOk};
-ghost use Rattle.table.specs.Text.{fields, is_number, comma_at, row_text, params_of};
+ghost use Rattle.table.specs.Text.{fields, is_number, row_text, params_of};
 ghost use Rattle.table.specs.Table.{opened, counted, verdict};
 ghost use Rattle.linefault.specs.Faults.{limit_of, all_within, refuses, refused_at_end};
 
@@ -73,23 +73,20 @@ impl fmt::Display for Fault {
 // The bytes after which a line without an end is refused.
 pub const NO_END: usize = 65536;
 
-// The place of the first comma from a place on, or the length.
-fn comma_from(line: &[u8], from: usize) -> usize
-    requires { from ≤ length line.now }
-    ensures value { result ≡ from + comma_at (drop from line.now) }
-    ensures upper_bound { result ≤ length line.now }
-{
-    from + table::comma_at(&line[from..])
+// The two kinds of a line: the parameters, which stand first, and a row.
+#[derive(Clone, Copy, Debug, PartialEq, Eq)]
+pub enum Kind {
+    Params,
+    Row,
 }
 
 // The highest number of a field: that of a reading or of the floor, or that of least distance and least width.
-pub fn limit_of(first: bool, field: usize) -> u32
-    ensures { result ≡ limit_of first field }
+pub fn limit_of(kind: Kind, field: usize) -> u32
+    ensures { result ≡ limit_of kind field }
 {
-    if first & (1 < field) {
-        limits::MAX_COUNT
-    } else {
-        table::MAX_NUMBER
+    match kind {
+        Kind::Params if 1 < field => limits::MAX_COUNT,
+        _ => table::MAX_NUMBER,
     }
 }
 
@@ -113,40 +110,36 @@ fn bad_field(text: &[u8], at: usize, field: usize, limit: u32) -> Fault
 }
 
 // Whether a field is a number to its limit.
-fn check_field(text: &[u8], at: usize, first: bool, field: usize) -> Result<(), Fault>
+fn check_field(text: &[u8], at: usize, kind: Kind, field: usize) -> Result<(), Fault>
     requires { at + length text.now < 0x1_0000_0000_0000_0000 }
-    ensures { is_ok result ≡ is_number (limit_of first field) text.now }
+    ensures { is_ok result ≡ is_number (limit_of kind field) text.now }
 {
-    let limit = limit_of(first, field);
+    let limit = limit_of(kind, field);
     match table::number(text, limit) {
         Some(_) => Ok(()),
         None => Err(bad_field(text, at, field, limit)),
     }
 }
 
-// How many fields a line has, or what is wrong with the first bad one. A `loop` from comma to comma: a fault is told with its column, which
-// a walk over the fields alone does not have.
-fn count_fields(line: &[u8], first: bool) -> Result<usize, Fault>
-    ensures good { is_ok result ≡ all_within first 1 (fields line.now) }
+// How many fields a line has, or what is wrong with the first bad one.
+fn count_fields(line: &[u8], kind: Kind) -> Result<usize, Fault>
+    ensures good { is_ok result ≡ all_within kind 1 (fields line.now) }
     ensures count { IfOk result (λ n. n ≡ length (fields line.now)) }
 {
-    let mut from = 0usize;
-    let mut field = 1usize;
-    loop {
-        let to = comma_from(line, from);
-        check_field(&line[from..to], from, first, field)?;
-        if to == line.len() {
-            return Ok(field);
-        }
-        from = to + 1;
-        field += 1;
+    let mut at = 0usize;
+    let mut count = 0usize;
+    for text in line.split(|b| *b == b',') {
+        count += 1;
+        check_field(text, at, kind, count)?;
+        at += text.len() + 1;
     }
+    Ok(count)
 }
 
 fn check_params(line: &[u8]) -> Result<(), Fault>
     ensures { is_err result ≡ refuses (opened (params_of line.now)) }
 {
-    let fields = count_fields(line, true)?;
+    let fields = count_fields(line, Kind::Params)?;
     if fields != 3 {
         return Err(Fault::NotThree { fields });
     }
@@ -156,7 +149,7 @@ fn check_params(line: &[u8]) -> Result<(), Fault>
 fn check_row(s: RowsSoFar, line: &[u8]) -> Result<(), Fault>
     ensures { is_err result ≡ refuses (counted s (row_text line.now)) }
 {
-    let fields = count_fields(line, false)?;
+    let fields = count_fields(line, Kind::Row)?;
     if fields > table::MAX_FIELDS {
         return Err(Fault::ManyFields { fields });
     }

@@ -11,14 +11,13 @@ use lib.ListN.{length, get_or, take, drop, set, length-set, length-drop, take-ap
 use lib.Seq.{get_or-set_same, get_or-set_other, get_or-drop, drop-set-lt, drop-drop, take-add}
 use lib.Ieee.{Float, nan}
 use Rattle.numeric.specs.Arith.{𝟎, at}
-use Rattle.digits.proofs.UpTo.{row_fits}
+use Rattle.digits.proofs.UpTo.{row_fits, front-map}
 use Rattle.tof.specs.declared.TofScale.{TofScale}
 use Rattle.record.specs.Record.{size, peak_at}
 use Rattle.record.proofs.Laws.{front-peak}
 use Rattle.frameindex.specs.FrameIndex.{Index, frames}
 use Rattle.framesums.specs.declared.inner.Window.{Window}
 use Rattle.framesums.specs.Sums.{add_frame, frame_sums}
-use Rattle.framesums.proofs.Laws.{front-map}
 use Rattle.windows.specs.Windows.{peak_window}
 use Rattle.manytraces.specs.ManyTraces.{traces_of}
 use Rattle.manytraces.specs.Steps.{window_at, Kept, Noted, Column, Columns}
@@ -167,7 +166,7 @@ module _ (ix : Index) (scale : TofScale) (pad : ℕ) (list : List ℕ) (w : ℕ 
       (take-add (j * m) m new
       ∙ ap (λ (x : List Float). x ++ take m (drop (j * m) new)) (traces-to j (omega arith))
       ∙ ap (λ (x : List Float). traces_of ix scale pad list j ++ x)
-      (front-map (drop (j * m) new) (λ k. add_frame ix (peak_window scale pad (peak_at list j)) (0 + k) 𝟎) m (omega arith)
+      (front-map (drop (j * m) new) nan (λ k. add_frame ix (peak_window scale pad (peak_at list j)) (0 + k) 𝟎) m (omega arith)
       (λ g b.
       let z : 0 + g ≡ g = omega arith in
       get_or-drop (j * m) new g nan ∙ c.here j g (omega arith) b ∙ ap (λ (v : Window). add_frame ix v g 𝟎) (same j (omega arith))

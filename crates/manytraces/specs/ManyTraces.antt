@@ -9,7 +9,7 @@ use Rattle.tof.specs.declared.TofScale.{TofScale}
 use Rattle.tof.specs.Tof.{sound_step, sound_ends, agreeing}
 use Rattle.frameindex.specs.declared.numbers.Further.{Further}
 use Rattle.frameindex.specs.FrameIndex.{Index, frames}
-use Rattle.frameindex.specs.IndexNumber.{index_number}
+use Rattle.frameindex.specs.IndexNumber.{index_number, met}
 use Rattle.windows.specs.Windows.{peak_window}
 use Rattle.traces.specs.Traces.{trace_of}
 use Rattle.manytraces.specs.declared.numbers.Rooms.{Rooms}
@@ -42,7 +42,7 @@ sums_in c = peaks_in c * frames c.index
 -- 4,194,303. 9: sound records. 20: room for all sums. 21: four words of scratch a peak. 22: a scale whose numbers agree.
 abbrev pub many_asks : Call → Rooms → Further
 many_asks c room =
-    record {
+    record met {
       lengths = eqb (length c.list % size) 0;
       sizes = leb (peaks_in c) max_list;
       values = sound_step c.scale.tof_step && leb c.pad max_count;

@@ -14,6 +14,7 @@ ghost use Rattle.manytraces.specs.Steps.{window_at, Kept, Noted, Column, Columns
 use super::peaks::PaddedPeaks;
 use frameindex::CheckedIndex;
 use framesums::inner::Window;
+use tof::CheckedScale;
 
 // ---- windows as words, four each: a caller lends scratch as words, since C has no `Window` and nothing is taken from a heap
 
@@ -43,22 +44,23 @@ fn window_at(windows: &[u32], k: usize) -> Window
     }
 }
 
-// Writes those of some peaks. A record and its window are read and written by their place, k, since both are words of a list.
+// Writes those of some peaks. By place: of a list that is written through `chunks_exact_mut` the proof knows the length alone, and a window
+// goes to the place of its peak.
 fn put_windows(peaks: PaddedPeaks, windows: &mut [u32])
     requires { Sound peaks.scale × (peaks.pad ≤ max_count) × (4 * (length peaks.list.now / size) ≤ length windows.old) }
     ensures { Noted (λ k. peak_window peaks.entry.scale peaks.entry.pad (peak_at peaks.entry.list.now k)) (length peaks.entry.list.now / size) windows.old windows.new }
 {
     for k in 0..peaks.count() {
         let p = record::inner::peak_at(peaks.list, k);
-        let w = windows::inner::peak_window(peaks.scale, peaks.pad, p);
+        let w = windows::inner::peak_window(CheckedScale::of(peaks.scale), peaks.pad, p);
         put_window(windows, k, w);
     }
 }
 
 // ---- sums
 
-// Puts the sums of frame f, of m frames: one for each of n windows, at the f-th place of its trace. A column goes by its place, k, in both
-// lists, four words and m sums apart.
+// Puts the sums of frame f, of m frames: one for each of n windows, at the f-th place of its trace. By place: a sum goes m
+// places behind the one before it, and through `chunks_exact_mut(m)` the proof would know the length of `out` alone.
 fn put_column(ix: &CheckedIndex, f: usize, m: usize, n: usize, windows: &[u32], out: &mut [f32])
     requires { (f + 1 < length ix.now.starts) × (f < m) × (n * m ≤ length out.old) × (4 * n ≤ length windows.now) }
     ensures { Column (λ k. add_frame ix.now (window_at windows.now k) f 𝟎) n m f out.old out.new }
@@ -69,7 +71,7 @@ fn put_column(ix: &CheckedIndex, f: usize, m: usize, n: usize, windows: &[u32], 
     }
 }
 
-// Those of the first m frames, by their places in the run.
+// Those of the first m frames, by their places in the run: an index has no list of frames.
 fn put_columns(ix: &CheckedIndex, m: usize, n: usize, windows: &[u32], out: &mut [f32])
     requires { (m < length ix.now.starts) × (n * m ≤ length out.old) × (4 * n ≤ length windows.now) }
     ensures { Columns (λ k g. add_frame ix.now (window_at windows.now k) g 𝟎) n m m out.old out.new }

@@ -49,6 +49,7 @@ pub fn check<'a>(
             room: has_room(n, ix.frames(), room.out),
             scratch: 4 * n <= room.windows,
             scale: tof::inner::agrees(scale),
+            ..Further::MET
         },
     )
 }

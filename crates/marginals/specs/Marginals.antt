@@ -1,11 +1,11 @@
 -- Marginals of an index: a block of frames, bins and scans, summed by frame or by scan.
-use Rattle.std.specs.Prelude.{Bool, true, ◌&&◌, List, ℕ, ◌+◌, ◌-◌, leb, ltb, length, Float, Result}
+use Rattle.std.specs.Prelude.{Bool, ◌&&◌, List, ℕ, ◌+◌, ◌-◌, leb, ltb, length, Float, Result}
 use Rattle.refusal.specs.declared.Refusal.{Refusal}
 use Rattle.refusal.specs.Numbered.{says}
 use Rattle.limits.specs.Limits.{max_reading, last_row, max_scan}
 use Rattle.frameindex.specs.declared.numbers.Further.{Further}
 use Rattle.frameindex.specs.FrameIndex.{Index, frames}
-use Rattle.frameindex.specs.IndexNumber.{index_number, plainly, Front}
+use Rattle.frameindex.specs.IndexNumber.{index_number, met, Front}
 use Rattle.framesums.specs.declared.inner.Window.{Window}
 use Rattle.framesums.specs.Sums.{frame_sums, scan_sums}
 use Rattle.marginals.specs.declared.inner.Block.{Block}
@@ -45,7 +45,7 @@ sound_ranges n b =
 
 -- what a marginal of n sums is asked besides its index: its ranges, scans to 65,535, and room for the sums
 abbrev pub marginal_asks : Index → Block → ℕ → ℕ → Further
-marginal_asks ix b n room = plainly (sound_ranges (frames ix) b) (leb b.im_hi max_scan) (leb n room) true
+marginal_asks ix b n room = record met { values = sound_ranges (frames ix) b; axes = leb b.im_hi max_scan; room = leb n room }
 
 -- its number, for readings up to a limit
 abbrev pub marginal_number : ℕ → Index → Block → ℕ → ℕ → ℕ

@@ -4,6 +4,7 @@ ghost use Rattle.refusal.specs.Numbered.{number_in};
 ghost use Rattle.marginals.specs.Marginals.{sound_ranges, marginal_number, window_of, frames_in, scans_in};
 ghost use Rattle.marginals.specs.Steps.{Within};
 
+use frameindex::numbers::Further;
 use frameindex::{CheckedIndex, FrameIndex};
 use framesums::inner::Window;
 use refusal::Refusal;
@@ -80,11 +81,11 @@ pub fn check<'a>(
 {
     ix.check(
         limit,
-        frameindex::numbers::plain(
-            sound_ranges(ix.frames(), b),
-            b.im_hi <= limits::MAX_SCAN,
-            n <= room,
-            true,
-        ),
+        Further {
+            values: sound_ranges(ix.frames(), b),
+            axes: b.im_hi <= limits::MAX_SCAN,
+            room: n <= room,
+            ..Further::MET
+        },
     )
 }

@@ -6,14 +6,14 @@ use Prim.Native.Nat.{ℕ, ◌≤◌, ◌-◌}
 use native.Mathlib.Omega.{arith}
 use borrow.Author.Tests.{le-leb, leb-true}
 use lib.Dec.{leb, eqb}
-use Rattle.numeric.proofs.Laws.{and-true}
-use Rattle.refusal.proofs.Bools.{both, and-false}
+use Rattle.refusal.proofs.Bools.{both}
 use Rattle.record.specs.declared.ImPeak1D.{ImPeak1D}
 use Rattle.peaklist.proofs.Extremes.{lowest-below, highest-above}
 use Rattle.matching.specs.declared.StitchParams.{StitchParams}
 use Rattle.matching.specs.declared.inner.Spans.{Spans}
 use Rattle.matching.specs.Matching.{at_most, rows_near, same_group, frames_overlap, scans_overlap, apexes_inside, compatible}
 use Rattle.matching.specs.Group.{Covers, row_span, scan_span, within_limits, may_join}
+use Rattle.std.proofs.Math.Bool.{and-true, and-false}
 
 at-most-below : (limit m n : ℕ) → m ≤ n → at_most limit n ≡ true → at_most limit m ≡ true
 unfolding at_most

@@ -11,12 +11,12 @@ use lib.Ieee.Bits.{of_bits-to_bits}
 use lib.Ieee.Scale.{round_same}
 use Rattle.numeric.specs.Arith.{◌⊕◌, ◌⊖◌, ◌⊘◌, 𝟎, 𝟏, index_f}
 use Rattle.numeric.specs.Numeric.{max_f}
-use Rattle.numeric.proofs.Laws.{and-true}
 use Rattle.numeric.proofs.Order.{le_not_lt, max-above}
 use Rattle.numeric.proofs.Patterns.{pattern, plus-bits}
 use Rattle.numeric.proofs.Bounds.{one, one-pos, mag, Num, Rep, AtMost, mag_is, rep, rep-scale, exact, limit_f, limit-num, le-mag, round-at-most, round-at-least, add_is, sub_is, div_is, mag-zero, mag-one, mag-readings, num-zero, num-one}
-use Rattle.refusal.proofs.Bools.{all4, and-false}
+use Rattle.refusal.proofs.Bools.{all4}
 use Rattle.matching.specs.Matching.{samples, overlap, jaccard_f, enough_common}
+use Rattle.std.proofs.Math.Bool.{and-true, and-false}
 
 -- ---- floats with a clear sign
 

@@ -1,12 +1,13 @@
 // The tests of stitching. Each takes any values.
-ghost use Rattle.std.specs.Prelude.{◌≡◌, min, max, List, [], ◌∷◌, ◌≤◌, ◌<◌, ◌+◌, ◌-◌, ◌*◌, length};
-ghost use Rattle.record.specs.Record.{size, peak_at};
+ghost use Rattle.std.specs.Prelude.{◌≡◌, min, max, List, [], ◌∷◌, ◌<◌, ◌-◌};
+ghost use Rattle.record.specs.Record.{peak_at};
 ghost use Rattle.record.specs.declared.ImPeak1D.{ImPeak1D as PeakT};
 ghost use Rattle.matching.specs.Matching.{samples, overlap, jaccard_f, enough_common, at_most, group_of};
 ghost use Rattle.matching.specs.Matching.{same_group, rows_near, frames_overlap, scans_overlap, inside, apexes_inside, compatible};
 ghost use Rattle.matching.specs.Group.{Covers, within_limits, may_join};
 
 use super::StitchParams;
+use peaklist::Records;
 use record::ImPeak1D;
 
 // Whether n is at most a limit. A limit of 0 is none, since the parameters and the C entry have a word for it (docs/SCOPE.md), and no
@@ -18,7 +19,8 @@ fn at_most(limit: u32, n: u32) -> bool
     (limit == 0) | (n <= limit)
 }
 
-// From one sample to another, ends included; none if the ends are reversed.
+// From one sample to another, ends included; none if the ends are reversed. tof's `Span` has the same fields for two bins or two TOF
+// values; no crate below both is about either.
 #[derive(Clone, Copy)]
 pub struct Interval {
     pub lo: u32,
@@ -31,10 +33,9 @@ impl Interval {
     fn samples(self) -> u32
         ensures { result ≡ samples self.lo self.hi }
     {
-        match self.hi.checked_sub(self.lo) {
-            Some(more) => more.saturating_add(1),
-            None => 0,
-        }
+        self.hi
+            .checked_sub(self.lo)
+            .map_or(0, |more| more.saturating_add(1))
     }
 
     // What two have in common.
@@ -107,11 +108,7 @@ impl Interval {
 pub fn group_of(p: ImPeak1D) -> Option<u32>
     ensures { result ≡ group_of p }
 {
-    if p.flags % 2 == ImPeak1D::HAS_GROUP {
-        Some(p.window_group)
-    } else {
-        None
-    }
+    (p.flags % 2 == ImPeak1D::HAS_GROUP).then_some(p.window_group)
 }
 
 fn same_group(p: StitchParams, a: ImPeak1D, b: ImPeak1D) -> bool
@@ -248,34 +245,30 @@ impl Spans {
     }
 }
 
-// A test of the peaks at places k - 1 and k of a list. It reads its peaks itself, so that only the words that it looks at are read, and
+// A test of the peaks at places k - 1 and k. It reads its peaks itself, so that only the words that it looks at are read, and
 // only if it is asked.
 fn at<F: Fn(StitchParams, ImPeak1D, ImPeak1D) -> bool>(
-    list: &[u32],
+    records: Records<'_>,
     k: usize,
     params: StitchParams,
     test: F,
 ) -> bool
-    requires pair { (0 < k) × (k * size + size ≤ length list.now) }
-    requires asked { F.pre test params (peak_at list.now (k - 1)) (peak_at list.now k) }
-    ensures { F.post test params (peak_at list.now (k - 1)) (peak_at list.now k) result }
+    requires pair { (0 < k) × (k < records.count) }
+    requires asked { F.pre test params (peak_at records.words.now (k - 1)) (peak_at records.words.now k) }
+    ensures { F.post test params (peak_at records.entry.words.now (k - 1)) (peak_at records.entry.words.now k) result }
 {
-    test(
-        params,
-        record::inner::peak_at(list, k - 1),
-        record::inner::peak_at(list, k),
-    )
+    test(params, records.peak(k - 1), records.peak(k))
 }
 
-// Whether a group with these spans, whose newest member is the peak before place k of a list, may take in that at place k. The rows of the
+// Whether a group with these spans, whose newest member is the peak before place k, may take in that at place k. The rows of the
 // two lie no further apart than those of the whole group.
-pub fn joins_at(list: &[u32], k: usize, s: Spans, params: StitchParams) -> bool
-    requires { (0 < k) × (k * size + size ≤ length list.now) }
-    ensures { (ps : List PeakT) → Covers s (peak_at list.now (k - 1) ∷ ps) → result ≡ may_join params (peak_at list.now (k - 1) ∷ ps) (peak_at list.now k) }
+pub fn joins_at(records: Records<'_>, k: usize, s: Spans, params: StitchParams) -> bool
+    requires { (0 < k) × (k < records.count) }
+    ensures { (ps : List PeakT) → Covers s (peak_at records.entry.words.now (k - 1) ∷ ps) → result ≡ may_join params (peak_at records.entry.words.now (k - 1) ∷ ps) (peak_at records.entry.words.now k) }
 {
-    s.widened(record::inner::peak_at(list, k)).fit(params)
-        && at(list, k, params, same_group)
-        && at(list, k, params, frames_overlap)
-        && at(list, k, params, scans_overlap)
-        && at(list, k, params, apexes_inside)
+    s.widened(records.peak(k)).fit(params)
+        && at(records, k, params, same_group)
+        && at(records, k, params, frames_overlap)
+        && at(records, k, params, scans_overlap)
+        && at(records, k, params, apexes_inside)
 }

@@ -5,33 +5,22 @@ use Prim.Native.Nat.{ℕ, zero, suc, ◌+◌, ◌-◌, ◌*◌, ◌/◌, ◌%◌
 use native.Mathlib.Nat.{le_trans, le_refl, lt_of_lt_of_le, mul-one, mul-pos, mul_assoc, add-div_right, div-div-eq-div-mul, div-lt_iff_lt-mul, mul_right_comm, mul_left_comm, add-mul, not-le_of_lt}
 use native.Mathlib.Omega.{arith}
 use borrow.Author.Tests.{ltb-true, leb-true, leb-false, le-ltb}
-use lib.Dec.{T, ltb, leb, eqb, ltb→lt, leb→le, eqb→eq, lit<, lit≤}
+use lib.Dec.{T, ltb, leb, eqb, leb→le, eqb→eq, lit<, lit≤}
 use lib.IntN.{ℤ, pos, negsuc}
 use lib.Pow.{pow-add, pow_pos, pow-lt, pow_mono, shl_lt}
 use lib.Ieee.{Float, nan, inf, fin, binary32, up, down, lt, add, sum, of_int, of_bits, to_unsigned, fits, is_nan}
 use lib.Ieee.Fits.{and_l, and_r, down_pos}
 use lib.Ieee.Exact.{HasValue, round_exact}
-use lib.Ieee.Back.{round_whole}
 use lib.Ieee.Nearest.{div_same}
 use Rattle.refusal.proofs.Bools.{clash}
 use Rattle.numeric.specs.Arith.{◌⊕◌, 𝟎, index_f}
 use Rattle.numeric.specs.Numeric.{max_f, cast_f}
 use Rattle.rounding.specs.Rounding.{round_f}
-use Rattle.rounding.proofs.Guess.{cast-index}
-use Rattle.rounding.proofs.Laws.{zero_f, top_f, lt-is}
+use Rattle.rounding.proofs.Guess.{cast-index, index-value}
+use Rattle.rounding.proofs.Laws.{zero_f, top_f, lt-is, fits-small}
 use Rattle.merging.specs.Merging.{whole}
 
 -- ---- what fits binary32
-fits-small : (s : Bool) (m : ℕ) (e : ℤ) → T (fits binary32 (fin s m e)) → m < 2 ^ 24
-unfolding fits
-fits-small s zero e t = lit< tt
-fits-small s (suc m) e t =
-    let a : Bool = eqb (suc m % 2) 1 in
-    let b : Bool = ltb (suc m) (2 ^ 24) in
-    let c : Bool = leb (down e) (2 ^ 149) in
-    let d : Bool = ltb (suc m * up e) (2 ^ 128 * down e) in
-    ltb→lt (suc m) (2 ^ 24) (and_r a b (and_l (a && b) c (and_l (a && b && c) d t)))
-
 fits-down : (s : Bool) (m : ℕ) (e : ℤ) → T (fits binary32 (fin s m e)) → down e ≤ 2 ^ 149
 unfolding fits
 fits-down s zero (pos k) t = lit≤ tt
@@ -93,10 +82,6 @@ cut-value nan a c p v = absurd v
 cut-value (inf s) a c p v = absurd v
 cut-value (fin true m e) a c p v = clash true refl v.0
 cut-value (fin false m e) a c p v = ap (λ (z : ℕ). min z 4294967295) (div_same (m * up e) (down e) a c (down_pos e) p v.1)
-
-index-value : (k : ℕ) → k ≤ 16777216 → HasValue (index_f k) false k 1
-unfolding of_int
-index-value k h = round_whole binary32 false k h
 
 not-nan : (y : Float) (k : ℕ) → HasValue y false k 1 → is_nan y ≡ false
 unfolding is_nan

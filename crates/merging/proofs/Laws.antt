@@ -1,5 +1,5 @@
 -- What one more peak does to the definitions.
-use mathlib.Core.Path.{◌≡◌, refl, ap}
+use mathlib.Core.Path.{◌≡◌, refl, ap, sym}
 use mathlib.Core.Bool.{Bool, true, false, cond, ◌&&◌, ◌||◌}
 use mathlib.Core.List.{List, [], ◌∷◌, ◌++◌, append-nil, foldl-append}
 use lib.Ieee.{Float}
@@ -8,10 +8,10 @@ use Rattle.std.specs.Bool.{then_some}
 use Rattle.std.specs.Option.{option_or}
 use Rattle.numeric.specs.Arith.{◌⊕◌, ◌⊘◌, 𝟎, 𝟏}
 use Rattle.numeric.specs.Numeric.{max_f}
-use Rattle.numeric.proofs.Laws.{and-true, and_assoc}
 use Rattle.record.specs.declared.ImPeak1D.{ImPeak1D}
 use Rattle.peaklist.specs.Extremes.{is_any}
 use Rattle.merging.specs.Merging.{highest_f, summed, having, have_all, first_of}
+use Rattle.std.proofs.Math.Bool.{and_assoc, and-true}
 
 -- ---- heights and sums
 pub highest-join : (f : ImPeak1D → Float) (ps : List ImPeak1D) (p : ImPeak1D) → highest_f f (ps ++ (p ∷ [])) ≡ max_f (highest_f f ps) (f p)
@@ -40,7 +40,7 @@ any-join (q ∷ ps) p = refl
 pub all_join : (has : ImPeak1D → Bool) (ps : List ImPeak1D) (p : ImPeak1D) → have_all has (ps ++ (p ∷ [])) ≡ (have_all has ps && has p)
 unfolding have_all
 all_join has [] p = and-true (has p)
-all_join has (q ∷ ps) p = rw (all_join has ps p) (and_assoc (has q) (have_all has ps) (has p))
+all_join has (q ∷ ps) p = rw (all_join has ps p) (sym (and_assoc (has q) (have_all has ps) (has p)))
 
 pub first-join : {A : Type 0} (none : A) (f : ImPeak1D → A) (ps qs : List ImPeak1D) → first_of none f (ps ++ qs) ≡ cond (is_any ps) (first_of none f ps) (first_of none f qs)
 unfolding first_of is_any

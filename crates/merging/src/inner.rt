@@ -90,10 +90,7 @@ fn is_of_group(g: u32, p: ImPeak1D) -> bool
 fn of_group_too(group: Option<u32>, p: ImPeak1D) -> Option<u32>
     ensures { (there : Bool) (g : ℕ) → group ≡ then_some there g → result ≡ then_some (there && of_group g p) g }
 {
-    match group {
-        Some(g) if is_of_group(g, p) => Some(g),
-        _ => None,
-    }
+    group.filter(|g| is_of_group(*g, p))
 }
 
 fn mobility_of(p: ImPeak1D) -> Option<f32>

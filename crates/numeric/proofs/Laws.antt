@@ -1,11 +1,21 @@
 -- Laws of the helpers on binary32 values.
-use Rattle.std.proofs.Common.{◌≡◌, ℕ, ◌-◌, ◌*◌, ◌/◌, ◌%◌, ◌^◌, ◌<◌, ◌≤◌, min, Bool, true, false, not, ◌&&◌, ◌||◌, T, eqb, pos, sym, refl, ◌∙◌, subst, div-lt_iff_lt-mul, le-div_iff_mul-le, arith, le→leb, le-ltb, lt-ltb}
+use Rattle.std.proofs.Common.{◌≡◌, ℕ, ◌*◌, ◌%◌, ◌^◌, ◌<◌, ◌≤◌, Bool, true, false, not, ◌&&◌, ◌||◌, T, List, [], ◌∷◌, ◌++◌, ap, eqb, pos, sym, refl, ◌∙◌, subst, le→leb, le-ltb, lt-ltb, cond, arith, ◌+◌}
 use lib.Dec.{eqb_refl}
-use lib.Ieee.{Float, nan, inf, fin, binary32, up, down, lt, eq, ne, neg, is_nan, of_bits, nan_bits, to_unsigned, in_float, fits}
+use lib.Ieee.{Float, nan, inf, fin, binary32, up, down, ne, is_nan, of_bits, nan_bits, in_float}
 use lib.Ieee.Bits.{nan_bits_is, nan_bits_above}
 use Rattle.std.specs.Float.{float_with_sign}
+use denote.Param.Members.{Mut}
+use denote.Ref.{Bor}
+use Rattle.std.specs.Fn.{Called}
+use Rattle.std.specs.Iterator.{Drains}
+use Rattle.std.specs.List.{FoldsTo}
+use Rattle.std.specs.declared.slice.Iter.{Iter}
+use Rattle.std.proofs.lemmas.Fn.{fold_over, slice_gives, fronts}
 use Rattle.refusal.proofs.Bools.{clash}
 use Rattle.numeric.specs.Numeric.{abs_f}
+use Rattle.std.proofs.Math.Bool.{and_assoc, or_assoc, and-true, or-false}
+use mir.Val.{bool_byte}
+use native.Mathlib.Nat.{add-mul}
 
 -- ---- whole numbers as floats
 pub index_in : (n : ℕ) → n ≤ 16777216 → T (in_float binary32 (pos n))
@@ -36,12 +46,6 @@ nan-only (fin s m e) h = clash false h refl
 pub is-nan : (w : ℕ) → 0x7f80_0000 < w % 0x8000_0000 → of_bits binary32 w ≡ nan
 is-nan w h = nan-only (of_bits binary32 w) (sym (nan_bits_is binary32 w) ∙ nan_bits_above binary32 w ∙ lt-ltb 0x7f80_0000 (w % 0x8000_0000) h)
 
-capped : (a d : ℕ) → 0 < d → 1 * 2 ^ 32 * d ≤ a → min (a / d) (2 ^ 32 - 1) ≡ 2 ^ 32 - 1
-capped a d p h = let k : 4294967296 ≤ a / d = (le-div_iff_mul-le p).1 h in omega arith
-
-under : (a d : ℕ) → 0 < d → a * 1 < 1 * 2 ^ 32 * d → a / d < 2 ^ 32
-under a d p h = (div-lt_iff_lt-mul p).1 (let k : a < 4294967296 * d = omega arith in k)
-
 -- ---- the absolute value
 pub abs_is : (x : Float) → float_with_sign false x ≡ abs_f x
 unfolding float_with_sign abs_f
@@ -49,11 +53,38 @@ abs_is nan = refl
 abs_is (inf s) = refl
 abs_is (fin s m e) = refl
 
--- ---- conjunctions
-pub and-true : (a : Bool) → (a && true) ≡ a
-and-true true = refl
-and-true false = refl
+-- ---- conjunctions and disjunctions
+-- ---- a fold over a slice that asks a test of all of it
+module _ {A F : Type 0} (t : A → Bool) (of : List A → Bool) (more : (x : A) (xs : List A) → of (x ∷ xs) ≡ (t x && of xs)) (none : of [] ≡ true)
+    (g : Mut F (Bool × (Bor A × Unit {0})) Bool) (f : F)
+    (step : (a : Bool) (x : Bor A) (b : Bool) (f' : F) → Called g f (a, (x, tt)) b f' → (b ≡ (a && t x.now)) × (f' ≡ f)) where
+  push-all : (xs : List A) (x : A) → of (xs ++ (x ∷ [])) ≡ (of xs && t x)
+  push-all [] x = more x [] ∙ ap (λ a. t x && a) none ∙ and-true (t x) ∙ sym (ap (λ a. a && t x) none)
+  push-all (y ∷ ys) x = more y (ys ++ (x ∷ [])) ∙ ap (λ a. t y && a) (push-all ys x) ∙ sym (and_assoc (t y) (of ys) (t x)) ∙ sym (ap (λ a. a && t x) (more y ys))
 
-pub and_assoc : (a b c : Bool) → (a && (b && c)) ≡ ((a && b) && c)
-and_assoc true b c = refl
-and_assoc false b c = refl
+  pub fold-all : (s : Iter A) (r : Bool) → (xs : List (Bor A)) × (f' : F) × Drains fronts s xs × FoldsTo {P = F × Bool} (λ p x q. Called g p.0 (p.1, (x, tt)) q.1 q.0) (f, true) xs (f', r)
+      → r ≡ of s.rest.now
+  fold-all s r ran = fold_over fronts (λ y. y.now) g (λ ys b. b ≡ of ys) f
+      (λ ys a x b f' j k. let u = step a x b f' k in (u.0 ∙ ap (λ a. a && t x.now) j ∙ sym (push-all ys x.now), u.1))
+      s _ true r (slice_gives s) (sym none) ran
+
+module _ {A F : Type 0} (t : A → Bool) (of : List A → Bool) (more : (x : A) (xs : List A) → of (x ∷ xs) ≡ (t x || of xs)) (none : of [] ≡ false)
+    (g : Mut F (Bool × (Bor A × Unit {0})) Bool) (f : F)
+    (step : (a : Bool) (x : Bor A) (b : Bool) (f' : F) → Called g f (a, (x, tt)) b f' → (b ≡ (a || t x.now)) × (f' ≡ f)) where
+  push-any : (xs : List A) (x : A) → of (xs ++ (x ∷ [])) ≡ (of xs || t x)
+  push-any [] x = more x [] ∙ ap (λ a. t x || a) none ∙ or-false (t x) ∙ sym (ap (λ a. a || t x) none)
+  push-any (y ∷ ys) x = more y (ys ++ (x ∷ [])) ∙ ap (λ a. t y || a) (push-any ys x) ∙ sym (or_assoc (t y) (of ys) (t x)) ∙ sym (ap (λ a. a || t x) (more y ys))
+
+  pub fold-any : (s : Iter A) (c r : Bool) → (xs : List (Bor A)) × (f' : F) × Drains fronts s xs × FoldsTo {P = F × Bool} (λ p x q. Called g p.0 (p.1, (x, tt)) q.1 q.0) (f, c) xs (f', r)
+      → r ≡ (c || of s.rest.now)
+  fold-any s c r ran = fold_over fronts (λ y. y.now) g (λ ys b. b ≡ (c || of ys)) f
+      (λ ys a x b f' j k. let u = step a x b f' k in (u.0 ∙ ap (λ a. a || t x.now) j ∙ (or_assoc c (of ys) (t x.now)) ∙ sym (ap (λ a. c || a) (push-any ys x.now)), u.1))
+      s _ c r (slice_gives s) (sym (ap (λ a. c || a) none ∙ or-false c)) ran
+
+-- ---- a Boolean as a number, and one product more
+pub as_number : (b : Bool) → bool_byte b ≡ cond b 1 0
+as_number true = refl
+as_number false = refl
+
+pub product-step : (k m : ℕ) → (k + 1) * m ≡ k * m + m
+product-step k m = let e : (k + 1) * m ≡ k * m + 1 * m = add-mul k 1 m in omega arith

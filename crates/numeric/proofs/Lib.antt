@@ -3,3 +3,4 @@ pub mod Laws
 pub mod Order
 pub mod Patterns
 pub mod Bounds
+pub mod Lists

@@ -10,7 +10,7 @@ use lib.Ieee.Fits.{down_pos}
 use lib.Ieee.Positive.{num, den, den_pos}
 use Rattle.numeric.specs.Numeric.{abs_f, max_f}
 use Rattle.refusal.proofs.Bools.{clash}
-use Rattle.numeric.proofs.Laws.{and-true}
+use Rattle.std.proofs.Math.Bool.{and-true}
 
 -- ---- two tests that say the same
 same-ltb : (a b c d : ℕ) → (a < b → c < d) → (b ≤ a → d ≤ c) → ltb a b ≡ ltb c d
@@ -191,9 +191,6 @@ lt-true {i = i} {j = j} a h = ltb-true i j (sym a.lt-is ∙ h)
 le-true : {x y : Float} {i j : ℕ} → Alike x y i j → le x y ≡ true → i ≤ j
 le-true {i = i} {j = j} a h = leb-true i j (sym a.le_is ∙ h)
 
-eq-true : {x y : Float} {i j : ℕ} → Alike x y i j → eq x y ≡ true → i ≡ j
-eq-true {i = i} {j = j} a h = eqb-true i j (sym a.eq_is ∙ h)
-
 -- and what the numbers say of a comparison
 true-lt : {x y : Float} {i j : ℕ} → Alike x y i j → i < j → lt x y ≡ true
 true-lt {i = i} {j = j} a h = a.lt-is ∙ lt-ltb i j h
@@ -285,26 +282,12 @@ le_total a b p q = go (le a b) refl
     go true h = inl h
     go false h = inr (lt-le b a (not-le a b p q h))
 
-pub le_refl : (a : Float) → is_nan a ≡ false → le a a ≡ true
-le_refl a p = not-lt a a p p (lt_irrefl a)
-
 pub le_antisym : (a b : Float) → le a b ≡ true → le b a ≡ true → eq a b ≡ true
 le_antisym a b h k =
     let n = le-no-nan a b h in
     let t = three a b b n.0 n.1 n.1 in
     let l = le-true t.xy h in
     let r = le-true t.yx k in true-eq t.xy (omega arith)
-
-pub eq-le : (a b : Float) → eq a b ≡ true → le a b ≡ true
-eq-le a b h =
-    let n = eq-no-nan a b h in
-    let t = three a b b n.0 n.1 n.1 in
-    let l = eq-true t.xy h in true-le t.xy (omega arith)
-
-pub eq-sym : (a b : Float) → eq a b ≡ true → eq b a ≡ true
-eq-sym a b h =
-    let n = eq-no-nan a b h in
-    let t = three a b b n.0 n.1 n.1 in true-eq t.yx (sym (eq-true t.xy h))
 
 -- ---- from one to the next
 pub le_trans : (a b c : Float) → le a b ≡ true → le b c ≡ true → le a c ≡ true

@@ -1,14 +1,14 @@
 -- Floats with a clear sign order like their bit patterns, infinity included.
-use Rattle.std.proofs.Common.{◌≡◌, ℕ, zero, suc, ◌+◌, ◌-◌, ◌*◌, ◌/◌, ◌%◌, ◌^◌, ◌<◌, ◌≤◌, Bool, true, false, not, ◌&&◌, ◌||◌, T, eqb, ltb, leb, List, [], ◌∷◌, length, take, drop, ℤ, sym, refl, ap, ◌∙◌, subst, inl, inr, le_trans, le_of_eq, lt_of_le_of_lt, mul-le-mul_right, suc-mul, eq-or-lt_of_le, le-div_iff_mul-le, zero-add, mul_right_comm, arith, pow_pos, pow-add, ltb-false, ltb-true, le-ltb, lt-ltb, eqb-true, le-leb, leb-true}
+use Rattle.std.proofs.Common.{◌≡◌, ℕ, zero, suc, ◌+◌, ◌-◌, ◌*◌, ◌/◌, ◌%◌, ◌^◌, ◌<◌, ◌≤◌, Bool, true, false, cond, not, ◌&&◌, ◌||◌, T, eqb, ltb, leb, List, [], ◌∷◌, length, take, drop, ℤ, sym, refl, ap, ◌∙◌, subst, inl, inr, le_trans, le_of_eq, lt_of_le_of_lt, mul-le-mul_right, suc-mul, eq-or-lt_of_le, le-div_iff_mul-le, zero-add, mul_right_comm, arith, pow_pos, pow-add, ltb-false, ltb-true, le-ltb, lt-ltb, eqb-true, le-leb, leb-true}
 use native.Mathlib.Nat.{pow-succ'}
 use borrow.Author.Tests.{lt-leb}
-use lib.Ieee.{Float, nan, inf, fin, binary32, up, down, size, lt, le, eq, is_nan, to_bits, of_bits}
+use lib.Ieee.{Float, nan, inf, fin, Format, binary32, prec, emax, low, up, down, size, lt, le, eq, neg, is_nan, to_bits, of_bits, odd, units, round}
 use lib.Ieee.Digits.{size-lt, size-le, size_reaches}
 use lib.Ieee.Fits.{kept-lt, down_pos}
 use lib.Ieee.Scale.{finite}
 use lib.Ieee.Nearest.{div_mono}
 use lib.Ieee.Bits.{of_bits-to_bits, to_bits-of_bits, nan_bits_is}
-use Rattle.numeric.specs.Arith.{at}
+use Rattle.numeric.specs.Arith.{𝟎, ½, at}
 use Rattle.numeric.specs.Numeric.{in_range, all_in_range}
 use Rattle.numeric.specs.Plain.{Plain, AllFit, AllPlain, LeAsPatterns, LtAsPatterns}
 use Rattle.refusal.proofs.Bools.{clash, both}
@@ -202,3 +202,36 @@ same_test t w h n = go (ltb 0x7f80_0000 (w % 0x8000_0000)) refl
 pub range-word : (limit w : ℕ) → w < 2 ^ 32 → limit < 0x7f80_0000 → in_range limit (of_bits binary32 w) ≡ leb w limit
 unfolding in_range
 range-word limit w h g = same_test (λ v. leb v limit) w h (λ v k. lt-leb v limit (omega arith))
+
+-- ---- rounding gives numbers, and a sign is the highest bit
+pub odd_number : (d : ℕ) (s : Bool) (q k l : ℕ) → is_nan (odd d s q k l) ≡ false
+unfolding odd is_nan
+odd_number d s zero k l = refl
+odd_number d s (suc q) k l = refl
+
+pub units_number : (f : Format) (s : Bool) (q k : ℕ) → is_nan (units f s q k) ≡ false
+unfolding units is_nan
+units_number f s q k = go (ltb (q * 2 ^ k) (2 ^ (low f + suc (emax f))))
+  where
+    go : (b : Bool) → is_nan (cond b (odd (suc (prec f)) s q k (low f)) (inf s)) ≡ false
+    go true = odd_number (suc (prec f)) s q k (low f)
+    go false = refl
+
+pub round_number : (f : Format) (s : Bool) (a b : ℕ) → is_nan (round f s a b) ≡ false
+unfolding round
+round_number f s a b = units_number f s _ _
+
+pub minus_plus : (m : ℕ) (e : ℤ) → to_bits binary32 (fin true m e) ≡ 0x8000_0000 + to_bits binary32 (fin false m e)
+unfolding to_bits
+minus_plus m e = regroup _ _
+  where
+    regroup : (a b : ℕ) → 0x8000_0000 + a + b ≡ 0x8000_0000 + (0 + a + b)
+    regroup a b = omega arith
+
+pub zero_number : is_nan 𝟎 ≡ false
+unfolding of_bits is_nan
+zero_number = refl
+
+pub minus_half : neg ½ ≡ of_bits binary32 0xbf00_0000
+unfolding neg of_bits
+minus_half = refl

@@ -19,11 +19,8 @@ pub fn of_index(n: usize) -> f32
 pub fn all_in_range(y: &[f32], limit: u32) -> bool
     ensures { result ≡ all_in_range limit y.now }
 {
-    let mut all = true;
-    for &x in y {
-        all &= super::in_range(x, limit);
-    }
-    all
+    y.iter()
+        .fold(true, |all, &x| all & super::in_range(x, limit))
 }
 
 // What is known of every f32, to be had of a reading: no code is left of it.

@@ -1,29 +1,30 @@
--- Laws of rising lists that a loop reads from the front (cited by wordbytes).
-use mathlib.Core.Path.{◌≡◌, refl}
-use mathlib.Core.Bool.{true, ◌&&◌}
+-- Laws of rising lists, and of numbers up to a limit.
+use mathlib.Core.Path.{◌≡◌, sym, ◌∙◌}
+use mathlib.Core.Bool.{true, ◌&&◌, Bool}
 use mathlib.Core.List.{List, [], ◌∷◌}
-use Prim.Native.Nat.{ℕ, ◌≤◌, ◌<◌, ◌+◌}
-use native.Mathlib.Numerals.{add-one}
+use Prim.Native.Nat.{ℕ, zero, suc, ◌≤◌, ◌<◌, ◌+◌}
 use native.Mathlib.Omega.{arith}
-use lib.Dec.{ltb}
-use lib.ListN.{length, get_or, drop, drop_of_length-le}
-use lib.Seq.{drop-cons}
-use Rattle.params.specs.Params.{rising_from, rising}
+use lib.Dec.{ltb, leb}
+use lib.ListN.{get_or}
+use Rattle.params.specs.Params.{rising_from, rising, all_up_to}
+use borrow.Author.Tests.{leb-true}
+use Rattle.std.proofs.lemmas.Bool.{and_parts}
+use Rattle.std.specs.List.{fold, zip}
+use Rattle.std.proofs.Math.Bool.{and-true, and_assoc}
 
-pub rising_none : (l : List ℕ) → length l ≡ 0 → rising l ≡ true
-unfolding rising
-rising_none [] h = refl
-rising_none (s ∷ ss) h = absurd (omega arith)
+-- a list of numbers up to a limit has no higher one at any place
+pub up-to-at : (limit : ℕ) (l : List ℕ) (k : ℕ) → all_up_to limit l ≡ true → get_or l k 0 ≤ limit
+unfolding all_up_to
+up-to-at limit [] k h = omega arith
+up-to-at limit (s ∷ ss) zero h = leb-true s limit (and_parts (leb s limit) _ h).0
+up-to-at limit (s ∷ ss) (suc k) h = up-to-at limit ss k (and_parts (leb s limit) _ h).1
 
-pub rising-start : (l : List ℕ) → 0 < length l → rising l ≡ rising_from (get_or l 0 0) (drop 1 l)
-unfolding rising
-rising-start [] h = absurd (omega arith)
-rising-start (s ∷ ss) h = refl
-
-pub rising_step : (s : ℕ) (l : List ℕ) (i : ℕ) → i < length l → rising_from s (drop i l) ≡ (ltb s (get_or l i 0) && rising_from (get_or l i 0) (drop (i + 1) l))
+-- each number beside the one before it
+rising-from-fold : (s : ℕ) (l : List ℕ) (all : Bool) → fold (λ (all : Bool) (p : ℕ × ℕ). all && ltb p.0 p.1) all (zip (s ∷ l) l) ≡ (all && rising_from s l)
 unfolding rising_from
-rising_step s l i h = rw (add-one, drop-cons l i 0)
+rising-from-fold s [] all = sym (and-true all)
+rising-from-fold s (t ∷ l) all = rising-from-fold t l (all && ltb s t) ∙ and_assoc all (ltb s t) (rising_from t l)
 
-pub rising-end : (s : ℕ) (l : List ℕ) (i : ℕ) → length l ≤ i → rising_from s (drop i l) ≡ true
-unfolding rising_from
-rising-end s l i h = rw (drop_of_length-le l h)
+pub rising-fold : (l rest : List ℕ) (s : ℕ) → l ≡ s ∷ rest → fold (λ (all : Bool) (p : ℕ × ℕ). all && ltb p.0 p.1) true (zip l rest) ≡ rising l
+unfolding rising
+rising-fold l rest s e = rw e (rising-from-fold s rest true)

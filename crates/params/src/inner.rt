@@ -27,25 +27,17 @@ pub fn enough_ids(first: PeakId, peaks: usize) -> bool
 pub fn all_up_to(limit: u32, axis: &[u32]) -> bool
     ensures { result ≡ all_up_to limit axis.now }
 {
-    let mut all = true;
-    for &s in axis {
-        all &= s <= limit;
-    }
-    all
+    axis.iter().fold(true, |all, &s| all & (s <= limit))
 }
 
 #[tactic(auto, unfolding(crate::specs::Params::rising, crate::specs::Params::rising_from))]
 pub fn is_rising(axis: &[u32]) -> bool
     ensures { result ≡ rising axis.now }
 {
-    let Some((&first, rest)) = axis.split_first() else {
+    let Some((_, rest)) = axis.split_first() else {
         return true;
     };
-    let mut last = first;
-    let mut all = true;
-    for &s in rest {
-        all &= last < s;
-        last = s;
-    }
-    all
+    axis.iter()
+        .zip(rest)
+        .fold(true, |all, (&last, &s)| all & (last < s))
 }

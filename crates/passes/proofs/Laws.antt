@@ -1,6 +1,6 @@
 -- Records that are gathered, a list whose first places have been replaced one by one, and what the two passes leave.
 use mathlib.Core.Path.{◌≡◌, refl, sym, ap, subst, ◌∙◌}
-use mathlib.Core.Bool.{Bool, true, false, ◌&&◌}
+use mathlib.Core.Bool.{true}
 use mathlib.Core.List.Memᴰ
 use mathlib.Core.List.{List, [], ◌∷◌, ◌++◌, map, map-append, append_assoc, append-nil, Memᴰ}
 use mathlib.Core.List.Memᴰ.{head as here}
@@ -9,10 +9,11 @@ use Prim.Native.Nat.{ℕ, zero, suc, ◌+◌, ◌-◌, ◌*◌, ◌<◌, ◌≤�
 use native.Mathlib.Nat.{mul-le-mul_left}
 use native.Mathlib.Omega.{arith}
 use native.Mathlib.Numerals.{add-one}
-use borrow.Author.Tests.{eqb-true, eqb-false}
+use borrow.Author.Tests.{eqb-true}
 use lib.Dec.{eqb}
 use lib.ListN.{length, get_or, take, drop, set, length-map, length-append, length-drop, take-append-drop, drop_of_length-le, get_or-append}
-use lib.Seq.{drop-cons, drop-drop, drop_at, take_at, take-suc, set_at, get_or_at, length-take-le, get_or-append-add, get_or-take, get_or-drop, ext_get_or}
+use lib.Seq.{drop-cons, drop-drop, drop_at, take-suc, set_at, get_or_at, length-take-le, get_or-append-add, get_or-take, get_or-drop, ext_get_or}
+use Rattle.std.specs.List.{list_all, enumerate_from}
 use Rattle.refusal.proofs.Bools.{both}
 use Rattle.record.specs.Record.{size, peak_at}
 use Rattle.record.proofs.RoundTrip.{own-words}
@@ -22,7 +23,7 @@ use Rattle.peaklist.specs.PeakListLaws.{AllFit}
 use Rattle.peaklist.proofs.PeakListLaws.{peaks-length, nth-peaks, words-length, read_back}
 use Rattle.digits.specs.Sorted.{sorted_by, row, up_to}
 use Rattle.digits.proofs.SortedLaws.{at-index, sort-same, sort-none}
-use Rattle.digits.proofs.UpTo.{same_map, upto-get, upto-length, upto-lt}
+use Rattle.digits.proofs.UpTo.{same_map, upto-get, upto-length, upto-lt, fill-behind}
 use Rattle.matching.specs.declared.StitchParams.{StitchParams}
 use Rattle.keys.specs.declared.KeyRule.{KeyRule}
 use Rattle.keys.specs.declared.KeyRule.TheVariants.{First, Identity}
@@ -30,7 +31,6 @@ use Rattle.keys.specs.Keys.{key_of, width_of, key_table}
 use Rattle.keys.proofs.KeysLaws.{key-width, width-most, table-length, table-row, table-sorts}
 use Rattle.grouping.specs.Grouping.{groups, group_peaks, pass_order, pass_groups, number_in}
 use Rattle.grouping.specs.Walk.{Gathered, Columned, Grouped, marked}
-use Rattle.grouping.proofs.Laws.{fill-behind}
 use Rattle.passes.specs.Stitching.{first_groups, first_peaks, second_groups, owner_of, owners_of}
 use Rattle.passes.specs.Steps.{records_at, rest_order, Within, Passed}
 use Rattle.passes.proofs.PassLaws.{order-length, order_lt, pass-column, pass-count, pass-number, first-length, column-at, handed}
@@ -84,8 +84,17 @@ one_more list order d out i h w e =
 
 -- ---- places that stand in their own order
 
-pub all-stand : (order : List ℕ) → ((k : ℕ) → k < length order → get_or order k 0 ≡ k) → order ≡ up_to (length order)
+all-stand : (order : List ℕ) → ((k : ℕ) → k < length order → get_or order k 0 ≡ k) → order ≡ up_to (length order)
 all-stand order h = ext_get_or 0 order (up_to (length order)) (sym (upto-length (length order))) (λ k l. h k l ∙ sym (upto-get (length order) k l))
+
+-- so do places that are all found to be their own numbers
+found-places : (a : ℕ) (order : List ℕ) → list_all (λ y. eqb y.1 y.0) (enumerate_from a order) ≡ true → (k : ℕ) → k < length order → get_or order k 0 ≡ a + k
+found-places a [] e k h = absurd (omega arith)
+found-places a (p ∷ ps) e zero h = eqb-true p a (both (eqb p a) e).0 ∙ omega arith
+found-places a (p ∷ ps) e (suc k) h = found-places (a + 1) ps (both (eqb p a) e).1 k (omega arith) ∙ omega arith
+
+pub all-found : (order : List ℕ) → list_all (λ y. eqb y.1 y.0) (enumerate_from 0 order) ≡ true → order ≡ up_to (length order)
+all-found order e = all-stand order (λ k h. found-places 0 order e k h ∙ omega arith)
 
 -- ---- a list whose first places have been replaced
 
@@ -210,18 +219,15 @@ module _ (params : StitchParams) (ps : List ImPeak1D) (m : ℕ) (counted : m ≡
   words = words-length (first_peaks params ps) ∙ ap (λ (k : ℕ). k * size) as_many
 
   module _ (made rest : List ℕ) (e : made ≡ list_words (first_peaks params ps) ++ rest) where
-    made-front : take (m * size) made ≡ list_words (first_peaks params ps)
-    made-front = ap (take (m * size)) e ∙ take_at (list_words (first_peaks params ps)) rest (m * size) words
-
     pub made-rest : drop (m * size) made ≡ rest
     made-rest = ap (drop (m * size)) e ∙ drop_at (list_words (first_peaks params ps)) rest (m * size) words
 
     -- they are read as they were written
-    pub second-read : AllFit (first_peaks params ps) → peaks_of (take (m * size) made) m ≡ first_peaks params ps
+    pub second-read : AllFit (first_peaks params ps) → peaks_of made m ≡ first_peaks params ps
     second-read fit =
-        ap (λ (l : List ℕ). peaks_of l m) (made-front ∙ sym (append-nil (list_words (first_peaks params ps))))
-        ∙ ap (peaks_of (list_words (first_peaks params ps) ++ [])) (sym as_many)
-        ∙ read_back (first_peaks params ps) [] fit
+        ap (λ (l : List ℕ). peaks_of l m) e
+        ∙ ap (peaks_of (list_words (first_peaks params ps) ++ rest)) (sym as_many)
+        ∙ read_back (first_peaks params ps) rest fit
 
   module _ (firsts start : List ℕ) (e : firsts ≡ map (number_in (first_groups params ps)) (up_to (length ps)) ++ start) where
     pub first-number : (k : ℕ) → k < length ps → get_or firsts k 0 < m

@@ -100,7 +100,7 @@ module _ (rule : KeyRule) (params : StitchParams) (ps : List ImPeak1D) where
     unfolding pass_groups
     front-column =
         let order = pass_order rule ps in
-        front-map (marked 0 (groups rule params ps order) column) (number_in (groups rule params ps order)) (length ps)
+        front-map (marked 0 (groups rule params ps order) column) 0 (number_in (groups rule params ps order)) (length ps)
         (omega (arith, marked-length 0 (groups rule params ps order) column))
         (λ k h. member-number rule params ps order column k (sort-distinct (λ j. key_of rule (nth ps j)) (up_to (length ps)) (upto-distinct (length ps))) (omega arith) (number_in (groups rule params ps order) k) (pass-group rule params ps k h))
 

@@ -3,6 +3,7 @@ ghost use Rattle.std.specs.Prelude.{◌≡◌, ℕ, ◌≤◌, ◌<◌, ◌+◌,
 ghost use mathlib.Core.List.{◌++◌, map, Memᴰ};
 ghost use Rattle.record.specs.Record.{size};
 ghost use Rattle.peaklist.specs.PeakList.{peaks_of};
+ghost use Rattle.peaklist.specs.Records.{peaks_in};
 ghost use Rattle.digits.specs.Sorted.{up_to};
 ghost use Rattle.keys.specs.declared.KeyRule.TheVariants.{Identity};
 ghost use Rattle.keys.specs.Keys.{width_of};
@@ -13,6 +14,7 @@ ghost use Rattle.passes.specs.Steps.{records_at, rest_order, Passed, Within, Sti
 use super::Lent;
 use keys::KeyRule;
 use matching::StitchParams;
+use peaklist::Records;
 use record::ImPeak1D;
 
 // Copies the record at place p of one list to place k of another.
@@ -38,14 +40,12 @@ fn gather(list: &[u32], order: &[u32], sorted: &mut [u32])
 
 // Whether places stand in their own order: 0, 1, 2 and so on.
 fn stands(order: &[u32]) -> bool
-    requires { length order.now ≤ 4294967296 }
     ensures { result ≡ true → order.now ≡ up_to (length order.now) }
 {
-    let mut all = true;
-    for (i, &place) in order.iter().enumerate() {
-        all &= place == i as u32;
-    }
-    all
+    order
+        .iter()
+        .enumerate()
+        .all(|(i, &place)| place as usize == i)
 }
 
 // One pass over as many records of `list` as `order` has places: the merged peaks to the front of `out`, and for each place the number of
@@ -68,8 +68,11 @@ fn pass(
         × (words ≤ width_of rule) × (order.old ≡ rest_order rule words (peaks_of list.now (length order.old))) }
     ensures { Passed rule params (peaks_of list.now (length order.old)) column.old keys.old out.old result column.new keys.new out.new }
 {
-    let n = order.len();
-    keys::inner::put_keys(list, n, rule, keys);
+    let records = Records {
+        words: list,
+        count: order.len(),
+    };
+    keys::inner::put_keys(records, rule, keys);
     leading::inner::order_rows(keys, rule.width(), words, order, column);
     if stands(order) {
         return grouping::inner::put_groups(list, order, rule, params, out, column);
@@ -106,27 +109,28 @@ fn hand_on(numbers: &[u32], owners: &mut [u32])
     }
 }
 
-// Stitches the first n records of `list`: the stitched records at the front of `out`, and for each record the place of its stitched
-// one in `owners`. Returns how many there are. `order` has the places in the order of their identities. `order` and `groups` are
-// used up to n places, `keys` and `merged` up to n records. The count is handed in, as to `keys::inner::put_keys`.
-pub fn stitch_peaks(list: &[u32], n: usize, params: StitchParams, lists: &mut Lent<'_>) -> usize
-    requires { (n * size ≤ length list.now) × (n ≤ 4294967296) × (n * size ≤ length lists.old.out.now) × (n ≤ length lists.old.owners.now)
-        × (n ≤ length lists.old.order.now) × (n ≤ length lists.old.groups.now) × (n * size ≤ length lists.old.keys.now) × (n * size ≤ length lists.old.merged.now)
-        × (take n lists.old.order.now ≡ pass_order Identity (peaks_of list.now n)) }
-    ensures stitched { Stitched params (peaks_of list.now n) lists.old.out.now lists.old.owners.now result lists.new.out.now lists.new.owners.now }
-    ensures order { drop n lists.new.order.now ≡ drop n lists.old.order.now }
-    ensures groups { drop n lists.new.groups.now ≡ drop n lists.old.groups.now }
-    ensures keys { drop (n * size) lists.new.keys.now ≡ drop (n * size) lists.old.keys.now }
-    ensures merged { drop (n * size) lists.new.merged.now ≡ drop (n * size) lists.old.merged.now }
+// Stitches records: the stitched ones at the front of `out`, and for each record the place of its stitched one in `owners`. Returns how
+// many there are. `order` has the places in the order of their identities. `order` and `groups` are used up to as many places, `keys` and
+// `merged` up to as many records.
+pub fn stitch_peaks(records: Records<'_>, params: StitchParams, lists: &mut Lent<'_>) -> usize
+    requires { (records.count ≤ 4294967296) × (records.count * size ≤ length lists.old.out.now) × (records.count ≤ length lists.old.owners.now)
+        × (records.count ≤ length lists.old.order.now) × (records.count ≤ length lists.old.groups.now) × (records.count * size ≤ length lists.old.keys.now) × (records.count * size ≤ length lists.old.merged.now)
+        × (take records.count lists.old.order.now ≡ pass_order Identity (peaks_in records)) }
+    ensures stitched { Stitched params (peaks_in records.entry) lists.old.out.now lists.old.owners.now result lists.new.out.now lists.new.owners.now }
+    ensures order { drop records.entry.count lists.new.order.now ≡ drop records.entry.count lists.old.order.now }
+    ensures groups { drop records.entry.count lists.new.groups.now ≡ drop records.entry.count lists.old.groups.now }
+    ensures keys { drop (records.entry.count * size) lists.new.keys.now ≡ drop (records.entry.count * size) lists.old.keys.now }
+    ensures merged { drop (records.entry.count * size) lists.new.merged.now ≡ drop (records.entry.count * size) lists.old.merged.now }
     ensures same { SameLists lists.old lists.new }
 {
+    let n = records.count;
     let order = &mut *lists.order;
     let owners = &mut *lists.owners;
     let groups = &mut *lists.groups;
     let merged = &mut *lists.merged;
     // a key of the first pass has eight words; by the last, the identity, the places are in order
     let m = pass(
-        list,
+        records.words,
         KeyRule::First(params),
         params,
         &mut order[..n],
@@ -135,9 +139,8 @@ pub fn stitch_peaks(list: &[u32], n: usize, params: StitchParams, lists: &mut Le
         merged,
         7,
     );
-    let made = &*merged;
     let found = pass_over(
-        &made[..m * ImPeak1D::WORDS],
+        merged,
         KeyRule::Second,
         params,
         &mut order[..m],

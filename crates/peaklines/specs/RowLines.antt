@@ -3,7 +3,6 @@
 use Rattle.std.specs.Prelude.{◌≡◌, true, List, [], ◌∷◌, ◌++◌, ℕ, ◌+◌, ◌*◌, ◌≤◌, length, drop, Float}
 use Rattle.limits.specs.Limits.{any_number}
 use Rattle.table.specs.Sizes.{line_bytes, max_fields, put_room}
-use Rattle.numeric.specs.Arith.{𝟎}
 use Rattle.numeric.specs.Numeric.{all_in_range}
 use Rattle.params.specs.Params.{most_peaks}
 use Rattle.params.specs.declared.ImDetectParams.{ImDetectParams}
@@ -24,7 +23,7 @@ abbrev pub no_frames : FrameBounds
 no_frames = record { rt_lo = 0; rt_hi = 0; frame_id_lo = 0; frame_id_hi = 0; window_group = None }
 
 abbrev pub no_axes : OnAxes
-no_axes = record { scan = 0; left = 0; right = 0; mobility = 𝟎; flag = 0 }
+no_axes = record { scan = 0; left = 0; right = 0; mobility = None }
 
 -- the peak of an apex of row r, as far as it is printed
 abbrev pub printed_peak : ℕ → List Float → ℕ → ImPeak1D

@@ -14,7 +14,7 @@ ghost use Rattle.peaklines.specs.TableText.{peaks_text, text_of, line_text, Coun
 use params::{FrameBounds, ImDetectParams, RowPlace};
 use record::ImPeak1D;
 use row::inner::OnAxes;
-use rowsearch::scratch::Scratch;
+use rowsearch::scratch::{Arrays, Scratch};
 use table::{Progress, RowsSoFar, Verdict};
 
 fn place_of(tof_row: u32) -> RowPlace
@@ -47,8 +47,7 @@ fn no_axes() -> OnAxes
         scan: 0,
         left: 0,
         right: 0,
-        mobility: 0.0,
-        flag: 0,
+        mobility: None,
     }
 }
 
@@ -61,8 +60,8 @@ fn append_line(out: &mut [u8], at: usize, p: ImPeak1D) -> usize
     at + table::inner::put_peak_line(&mut out[at..], p)
 }
 
-// Writes the lines of the n apexes that stand in `found` to the front of `out`, the oldest first, and answers how many bytes they are. An
-// apex is some words of `found`, read at its place.
+// Writes the lines of the n apexes that stand in `found` to the front of `out`, the oldest first, and answers how many bytes they are. By
+// place: of chunks of `found`, which is longer than the apexes, each apex would be read at place 0 of the one at hand, in no fewer lines.
 fn put_peak_lines(found: &[u32], n: usize, y: &[f32], tof_row: u32, out: &mut [u8]) -> usize
     requires { Printable y.now (length out.old) × (n ≤ most_peaks (length y.now)) × ((ks : List ℕ) × Standing y.now y.now found.now n ks) }
     ensures { (ks : List ℕ) → Standing y.now y.now found.now n ks → Printed tof_row y.now out.old out.new result ks }
@@ -98,27 +97,19 @@ fn put_lines_by(
 // The same with scratch of its own, for a row of at most N samples. It is no part of its callers, so that each has the stack of one size
 // alone. There is no heap, so the lists stand in the frame of this function, as those of `row::inner::list_in` do.
 #[inline(never)]
-fn put_lines_in<const N: usize, const B: usize, const F: usize>(
+fn put_lines_in<const N: usize, const B: usize>(
     y: &[f32],
     tof_row: u32,
     p: ImDetectParams,
     out: &mut [u8],
 ) -> usize
     requires row { Printable y.now (length out.old) × (reaches p.min_prom (highest_reading 𝟎 y.now) ≡ true) × (length y.now ≤ N) }
-    requires sizes { Sizes N B F }
+    requires sizes { Sizes N B }
     ensures count { result ≡ length (row_lines p tof_row y.now) }
     ensures front { out.new ≡ row_lines p tof_row y.now ++ drop result out.old }
 {
-    let mut turns = [0u32; N];
-    let mut bases = [0u32; B];
-    let mut found = [0u32; F];
-    let mut scratch = Scratch {
-        samples: N,
-        turns: &mut turns,
-        bases: &mut bases,
-        found: &mut found,
-    };
-    put_lines_by(y, tof_row, p, &mut scratch, out)
+    let mut lists = Arrays::<N, B>::new();
+    put_lines_by(y, tof_row, p, &mut lists.lend(N), out)
 }
 
 // Writes the lines of a row's listed peaks to the front of `out` and answers how many bytes they are: a row that does not reach the
@@ -132,12 +123,12 @@ pub fn put_row_lines(y: &[f32], tof_row: u32, p: ImDetectParams, out: &mut [u8])
         return 0;
     }
     if y.len() <= 64 {
-        return put_lines_in::<64, 68, 256>(y, tof_row, p, out);
+        return put_lines_in::<64, 68>(y, tof_row, p, out);
     }
     if y.len() <= 1024 {
-        return put_lines_in::<1024, 800, 4096>(y, tof_row, p, out);
+        return put_lines_in::<1024, 800>(y, tof_row, p, out);
     }
-    put_lines_in::<4096, 2336, 16384>(y, tof_row, p, out)
+    put_lines_in::<4096, 2336>(y, tof_row, p, out)
 }
 
 // Writes the lines of the peaks of an accepted row, whose readings stand at the front of `row`.

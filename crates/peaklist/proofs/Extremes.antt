@@ -10,7 +10,7 @@ use borrow.Author.Tests.{ltb-true, ltb-false}
 use lib.Dec.{ltb}
 use Rattle.refusal.proofs.Bools.{clash}
 use Rattle.record.specs.declared.ImPeak1D.{ImPeak1D}
-use Rattle.peaklist.specs.Extremes.{extreme, lowest_of, highest_of, is_any, AllAny, Has, LowestBelow, LowestOne, HighestAbove, HighestOne}
+use Rattle.peaklist.specs.Extremes.{extreme, is_any, AllAny, Has, LowestBelow, LowestOne, HighestAbove, HighestOne}
 
 -- ---- extremes, the lowest and the highest alike
 
@@ -108,17 +108,11 @@ lowest-below f p ps m = extreme-before min _ lowest-choice f p ps m
 pub lowest-one : LowestOne
 lowest-one f ps h = extreme-one min _ lowest-choice f ps h
 
-pub lowest-append : (f : ImPeak1D → ℕ) (ps qs : List ImPeak1D) → is_any ps ≡ true → is_any qs ≡ true → lowest_of f (ps ++ qs) ≡ min (lowest_of f ps) (lowest_of f qs)
-lowest-append f ps qs h k = extreme-append min _ lowest-choice f ps qs h k
-
 pub highest-above : HighestAbove
 highest-above f p ps m = extreme-before max _ highest-choice f p ps m
 
 pub highest-one : HighestOne
 highest-one f ps h = extreme-one max _ highest-choice f ps h
-
-pub highest-append : (f : ImPeak1D → ℕ) (ps qs : List ImPeak1D) → is_any ps ≡ true → is_any qs ≡ true → highest_of f (ps ++ qs) ≡ max (highest_of f ps) (highest_of f qs)
-highest-append f ps qs h k = extreme-append max _ highest-choice f ps qs h k
 
 -- one more peak
 pub extreme-join : (pick : ℕ → ℕ → ℕ) (f : ImPeak1D → ℕ) (ps : List ImPeak1D) (p : ImPeak1D) → is_any ps ≡ true

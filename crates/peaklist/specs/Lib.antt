@@ -2,3 +2,4 @@
 pub mod Extremes
 pub mod PeakList
 pub mod PeakListLaws
+pub mod Records

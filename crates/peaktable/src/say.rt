@@ -37,7 +37,7 @@ impl fmt::Display for Failure {
 fn line_number(s: Progress) -> u64 {
     match s {
         Progress::Start => 1,
-        Progress::Rows(t) => t.rows as u64 + 2,
+        Progress::Rows(t) => u64::from(t.rows) + 2,
     }
 }
 

@@ -1,5 +1,5 @@
 -- How the C entries of `probe` answer with plain numbers.
-use Rattle.std.specs.Prelude.{Bool, true, false, cond, List, ℕ, ◌-◌, ◌*◌, ◌/◌, ◌%◌, ltb, eqb, length, Float}
+use Rattle.std.specs.Prelude.{Bool, true, false, cond, List, ℕ, ◌-◌, ◌*◌, ◌/◌, ltb, eqb, length, Float}
 use Rattle.std.specs.Float.{binary32}
 use Rattle.std.specs.Float.Ieee.{to_bits}
 use Rattle.limits.specs.Limits.{exact_index}
@@ -51,7 +51,3 @@ bounds_of lo hi id-lo id-hi g =
 
 abbrev pub params_of : Float → ℕ → ℕ → ImDetectParams
 params_of floor d w = record { min_prom = floor; min_distance_scans = d; min_width_scans = w }
-
--- 64 times the count of peaks, or the number
-abbrev pub answer_word : Says ℕ → ℕ
-answer_word s = from_says (λ n. n % 4294967296 * 64) (λ n. n) s

@@ -8,17 +8,19 @@ ghost use Rattle.std.specs.Float.Ieee.{of_int, of_bits, to_bits};
 ghost use Rattle.numeric.specs.Numeric.{max_f, min_f, abs_f, clamp_f, cast_f, lerp_f, quad_f};
 ghost use Rattle.rounding.specs.Rounding.{floor_f, ceil_f, round_f};
 ghost use Rattle.refusal.specs.Answers.{answer_by};
+ghost use Rattle.entryword.specs.Word.{word_of, itself};
 ghost use Rattle.area.specs.Area.{area_f, area_number};
 ghost use Rattle.record.specs.Record.{peak_at, with_peak};
 ghost use Rattle.smoothing.specs.Smoothing.{smooth_number};
 ghost use Rattle.rowsearch.specs.Qualifying.{kept};
 ghost use Rattle.row.specs.RowNumber.{row_number};
 ghost use Rattle.probe.specs.Probe.{area_word, candidate_at, apex_f, has_place, sound_word};
-ghost use Rattle.probe.specs.Probe.{group_of, place_of, bounds_of, params_of, answer_word};
+ghost use Rattle.probe.specs.Probe.{group_of, place_of, bounds_of, params_of};
 
 use apex::inner::Level;
 use params::{FrameBounds, ImDetectParams, RowPlace};
 use record::ImPeak1D;
+use row::inner::Row;
 
 #[unsafe(no_mangle)]
 pub extern "C" fn probe_max(a: f32, b: f32) -> f32
@@ -117,8 +119,8 @@ pub extern "C" fn probe_area(y: &[f32], x0: f32, x1: f32) -> u64
     ensures { result ≡ area_word (answer_by (area_number y.now x0 x1) (area_f y.now x0 x1)) }
 {
     match area::trapezoid_area_fractional(y, x0, x1) {
-        Ok(a) => numeric::word_of(a) as u64,
-        Err(refusal) => refusal.number() as u64 * 4294967296,
+        Ok(a) => u64::from(numeric::word_of(a)),
+        Err(refusal) => u64::from(refusal.number()) * 4294967296,
     }
 }
 
@@ -194,7 +196,7 @@ pub extern "C" fn probe_sound(list: &[u32], k: usize) -> u32
 pub fn group_of(grouped: bool, window_group: u32) -> Option<u32>
     ensures { result ≡ group_of grouped window_group }
 {
-    if grouped { Some(window_group) } else { None }
+    grouped.then_some(window_group)
 }
 
 // The number, 0 for none.
@@ -231,7 +233,7 @@ pub extern "C" fn probe_find_im_peaks_row(
     first: u32,
     out: &mut [u32],
 ) -> u64
-    ensures { result ≡ answer_word (answer_by (row_number y.now z.now (place_of tof_row tof_center tof_lo tof_hi) (bounds_of rt_lo rt_hi frame_id_lo frame_id_hi (group_of grouped window_group)) mobility.now (params_of min_prom min_distance min_width) axis.now first (length out.old)) (length (kept (params_of min_prom min_distance min_width) y.now z.now))) }
+    ensures { result ≡ word_of itself (answer_by (row_number y.now z.now (place_of tof_row tof_center tof_lo tof_hi) (bounds_of rt_lo rt_hi frame_id_lo frame_id_hi (group_of grouped window_group)) mobility.now (params_of min_prom min_distance min_width) axis.now first (length out.old)) (length (kept (params_of min_prom min_distance min_width) y.now z.now))) }
 {
     let place = RowPlace {
         tof_row,
@@ -252,8 +254,13 @@ pub extern "C" fn probe_find_im_peaks_row(
         min_distance_scans: min_distance,
         min_width_scans: min_width,
     };
-    match row::find_im_peaks_row(y, z, place, bounds, mobility, p, axis, first, out) {
-        Ok(n) => (n % 4294967296) as u64 * 64,
-        Err(refusal) => refusal.number() as u64,
-    }
+    let row = Row {
+        y,
+        z,
+        place,
+        bounds,
+        mobility,
+        axis,
+    };
+    entryword::word_of(row::find_im_peaks_row(&row, p, first, out))
 }

@@ -8,13 +8,14 @@ ghost use Rattle.std.specs.Float.Ieee.{of_int, of_bits, to_bits};
 ghost use Rattle.numeric.specs.Numeric.{max_f, min_f, abs_f, clamp_f, cast_f, lerp_f, quad_f};
 ghost use Rattle.rounding.specs.Rounding.{floor_f, ceil_f, round_f};
 ghost use Rattle.refusal.specs.Answers.{answer_by};
+ghost use Rattle.entryword.specs.Word.{word_of, itself};
 ghost use Rattle.area.specs.Area.{area_f, area_number};
 ghost use Rattle.record.specs.Record.{peak_at, with_peak};
 ghost use Rattle.smoothing.specs.Smoothing.{smooth_number};
 ghost use Rattle.rowsearch.specs.Qualifying.{kept};
 ghost use Rattle.row.specs.RowNumber.{row_number};
 ghost use Rattle.probe.specs.Probe.{area_word, candidate_at, apex_f, has_place, sound_word};
-ghost use Rattle.probe.specs.Probe.{group_of, place_of, bounds_of, params_of, answer_word};
+ghost use Rattle.probe.specs.Probe.{group_of, place_of, bounds_of, params_of};
 
 #[unsafe(no_mangle)]
 pub extern "C" fn probe_max(a: f32, b: f32) -> f32
@@ -179,7 +180,7 @@ pub extern "C" fn probe_find_im_peaks_row(
     first: u32,
     out: &mut [u32],
 ) -> u64
-    ensures { result ≡ answer_word (answer_by (row_number y.now z.now (place_of tof_row tof_center tof_lo tof_hi) (bounds_of rt_lo rt_hi frame_id_lo frame_id_hi (group_of grouped window_group)) mobility.now (params_of min_prom min_distance min_width) axis.now first (length out.old)) (length (kept (params_of min_prom min_distance min_width) y.now z.now))) }
+    ensures { result ≡ word_of itself (answer_by (row_number y.now z.now (place_of tof_row tof_center tof_lo tof_hi) (bounds_of rt_lo rt_hi frame_id_lo frame_id_hi (group_of grouped window_group)) mobility.now (params_of min_prom min_distance min_width) axis.now first (length out.old)) (length (kept (params_of min_prom min_distance min_width) y.now z.now))) }
 {
     probe::probe_find_im_peaks_row(
         y,

@@ -17,7 +17,8 @@ use Rattle.rank.specs.RankLaws.{ReadingAtRank, OneReading, OneOfReadings, Distan
 use Rattle.rank.proofs.Laws.{ranked-is}
 use Rattle.rank.proofs.Sorted.{ranked-at, at-rank-in}
 use Rattle.rank.proofs.Signs.{distance-plain}
-use Rattle.rank.proofs.Lists.{map_at, steps-length, steps-at}
+use Rattle.rank.proofs.Lists.{steps-length, steps-at}
+use Rattle.std.proofs.lemmas.List.{get_or-map}
 
 -- ---- counts of readings are counts of patterns
 counted_words : (p : Float → Bool) (q : ℕ → Bool) (xs : List Float) → ((i : ℕ) → i < length xs → p (at xs i) ≡ q (word (at xs i))) → counted p xs ≡ counted q (words xs)
@@ -39,7 +40,7 @@ module _ (xs : List Float) (k : ℕ) (h : k < length xs) (a : AllPlain xs) where
   found =
       let i = at-rank-in (words xs) k (ranked (words xs) k) (ranked-at (words xs) k (rw (length-map xs word) h)) in
       let l : i.0 < length xs = subst (λ (n : ℕ). i.0 < n) (length-map xs word) i.1 in
-      (i.0, l, sym (map_at word xs i.0 nan 0 l) ∙ i.2)
+      (i.0, l, sym (get_or-map word xs i.0 nan 0 l) ∙ i.2)
 
   is : at xs found.0 ≡ rank_f xs k
   unfolding rank_f
@@ -79,7 +80,7 @@ one_float xs k h a v p r =
 pub distances-plain : DistancesPlain
 distances-plain m xs f a i h =
     let l : i < length xs = subst (λ (n : ℕ). i < n) (length-map xs (λ x. abs_f (x ⊖ m))) h in
-    subst Plain (sym (map_at (λ x. abs_f (x ⊖ m)) xs i nan nan l)) (distance-plain (at xs i) m (a i l) f)
+    subst Plain (sym (get_or-map (λ x. abs_f (x ⊖ m)) xs i nan nan l)) (distance-plain (at xs i) m (a i l) f)
 
 pub steps-plain : StepsPlain
 steps-plain xs a i h =

@@ -1,16 +1,15 @@
 -- Laws of counts and ranks, and of the search for an element by halving.
 use mathlib.Core.Path.{◌≡◌, refl, sym, ap, subst}
 use mathlib.Core.Bool.{Bool, true, false, cond, ◌&&◌}
-use mathlib.Core.List.{List, [], ◌∷◌, ◌++◌}
+use mathlib.Core.List.{List, [], ◌∷◌}
 use Prim.Native.Nat.{ℕ, suc, ◌+◌, ◌≤◌, ◌<◌, max}
 use native.Mathlib.Numerals.{add-one}
 use native.Mathlib.Omega.{arith}
 use native.Mathlib.Nat.{le_trans}
 use borrow.Author.Tests.{ltb-true, ltb-false, leb-true, leb-false, lt-ltb, le-ltb}
 use lib.Dec.{ltb, leb}
-use lib.ListN.{length, get_or, take, drop, drop_of_length-le}
-use lib.Seq.{drop-cons, take_at}
-use mir.Val.{bool_byte}
+use lib.ListN.{length, get_or, drop, drop_of_length-le}
+use lib.Seq.{drop-cons}
 use Rattle.refusal.proofs.Bools.{clash}
 use Rattle.rank.specs.Rank.{counted, smaller, at_most, AtRank, first_at, ranked, highest_to}
 use Rattle.rank.specs.RankLaws.{OneAtRank}
@@ -156,11 +155,6 @@ pub pass_step : (ws : List ℕ) (i x w : ℕ) → i < length ws → x ≡ get_or
 unfolding counted
 pass_step ws i x w h e = rw (add-one, drop-cons ws i 0 h, e)
 
--- a test as a number
-pub as_number : (b : Bool) → bool_byte b ≡ cond b 1 0
-as_number true = refl
-as_number false = refl
-
 pub one-at-most : (b : Bool) → cond b 1 0 ≤ 1
 one-at-most true = omega arith
 one-at-most false = omega arith
@@ -179,9 +173,3 @@ high-step ws i x h m l e = rw (add-one, drop-cons ws i 0 l, e) (three m (cond (l
 pub high_end : (ws : List ℕ) (i h m : ℕ) → length ws ≤ i → max m (highest_to h (drop i ws)) ≡ m
 unfolding highest_to
 high_end ws i h m l = rw (drop_of_length-le ws {i = i} l) (omega arith)
-
--- ---- a list of words
-
--- so they are its front
-pub filled-front : (p d ws : List ℕ) (n : ℕ) → n ≡ length p → ws ≡ p ++ drop n d → take n ws ≡ p
-filled-front p d ws n e f = rw f (take_at p (drop n d) n (sym e))

@@ -1,6 +1,6 @@
 -- What is ranked: how many words there are, and each of them.
 use mathlib.Core.Path.{◌≡◌, refl, sym, ap, ◌∙◌}
-use mathlib.Core.List.{List, [], ◌∷◌, map}
+use mathlib.Core.List.{List, [], ◌∷◌}
 use Prim.Native.Nat.{ℕ, zero, suc, ◌+◌, ◌-◌, ◌%◌, ◌≤◌, ◌<◌}
 use native.Mathlib.Numerals.{add-one}
 use native.Mathlib.Omega.{arith}
@@ -13,11 +13,7 @@ use Rattle.numeric.specs.Numeric.{abs_f}
 use Rattle.numeric.specs.Plain.{word}
 use Rattle.rank.specs.Rank.{counted, at_most, words, distances, steps_from, steps}
 use Rattle.rank.proofs.Signs.{bits-abs}
-
-pub map_at : {A B : Type 0} (f : A → B) (xs : List A) (i : ℕ) (d : A) (e : B) → i < length xs → get_or (map f xs) i e ≡ f (get_or xs i d)
-map_at f [] i d e h = absurd (omega arith)
-map_at f (x ∷ xs) zero d e h = refl
-map_at f (x ∷ xs) (suc i) d e h = map_at f xs i d e (omega arith)
+use Rattle.std.proofs.lemmas.List.{get_or-map}
 
 -- ---- steps
 from-length : (x : Float) (ys : List Float) → length (steps_from x ys) ≡ length ys
@@ -55,12 +51,12 @@ abs_word a b w e = ap (λ (n : ℕ). n % 0x8000_0000) e ∙ sym (bits-abs (a ⊖
 pub distance-word : (m : Float) (xs : List Float) (i w : ℕ) → i < length xs → w ≡ word (at xs i ⊖ m) → w % 0x8000_0000 ≡ get_or (words (distances m xs)) i 0
 distance-word m xs i w h e =
     let l : i < length (distances m xs) = rw (length-map xs (λ x. abs_f (x ⊖ m))) h in
-    abs_word (at xs i) m w e ∙ sym (map_at word (distances m xs) i nan 0 l ∙ ap word (map_at (λ x. abs_f (x ⊖ m)) xs i nan nan h))
+    abs_word (at xs i) m w e ∙ sym (get_or-map word (distances m xs) i nan 0 l ∙ ap word (get_or-map (λ x. abs_f (x ⊖ m)) xs i nan nan h))
 
 pub step-word : (xs : List Float) (i w : ℕ) → i + 1 < length xs → w ≡ word (at xs (i + 1) ⊖ at xs i) → w % 0x8000_0000 ≡ get_or (words (steps xs)) i 0
 step-word xs i w h e =
     let l : i < length (steps xs) = rw (steps-length xs) (omega arith) in
-    abs_word (at xs (i + 1)) (at xs i) w e ∙ sym (map_at word (steps xs) i nan 0 l ∙ ap word (steps-at xs i h))
+    abs_word (at xs (i + 1)) (at xs i) w e ∙ sym (get_or-map word (steps xs) i nan 0 l ∙ ap word (steps-at xs i h))
 
 -- ---- every word has 32 bits
 pub to-all : (top : ℕ) (ws : List ℕ) → ((i : ℕ) → i < length ws → get_or ws i 0 ≤ top) → at_most top ws ≡ length ws

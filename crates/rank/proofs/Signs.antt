@@ -8,14 +8,14 @@ use borrow.Author.Tests.{leb-true, le-leb}
 use lib.Dec.{T, ltb, leb, eqb, ltb→lt}
 use lib.IntN.{ℤ}
 use lib.Pow.{pow_pos}
-use lib.Ieee.{Float, nan, inf, fin, Format, binary32, prec, emax, low, up, down, size, is_nan, to_bits, fits, odd, units, round, sum, add, sub, neg}
+use lib.Ieee.{Float, nan, inf, fin, Format, binary32, up, down, size, is_nan, to_bits, fits, round, sum, add, sub, neg}
 use lib.Ieee.Digits.{size-le}
 use lib.Ieee.Fits.{kept-lt, down_pos, and_r, inf-fits, sub-fits}
 use lib.Ieee.Scale.{finite}
 use Rattle.refusal.proofs.Bools.{clash}
 use Rattle.numeric.specs.Numeric.{in_range, abs_f}
 use Rattle.numeric.specs.Plain.{Plain}
-use Rattle.numeric.proofs.Patterns.{plus-bits}
+use Rattle.numeric.proofs.Patterns.{plus-bits, round_number, minus_plus}
 
 -- ---- finite values with a clear sign have patterns up to infinity's
 in_all : (k q : ℕ) → k ≤ 253 → q < 2 ^ 24 → k * 2 ^ 23 + q ≤ 0x7f80_0000
@@ -55,19 +55,6 @@ number_of : (b : Bool) (x y : Float) → is_nan x ≡ false → is_nan y ≡ fal
 number_of true x y p q = p
 number_of false x y p q = q
 
-odd_number : (d : ℕ) (s : Bool) (q k l : ℕ) → is_nan (odd d s q k l) ≡ false
-unfolding odd is_nan
-odd_number d s zero k l = refl
-odd_number d s (suc q) k l = refl
-
-units_number : (f : Format) (s : Bool) (q k : ℕ) → is_nan (units f s q k) ≡ false
-unfolding units is_nan
-units_number f s q k = number_of (ltb (q * 2 ^ k) (2 ^ (low f + suc (emax f)))) (odd (suc (prec f)) s q k (low f)) (inf s) (odd_number (suc (prec f)) s q k (low f)) refl
-
-round_number : (f : Format) (s : Bool) (a b : ℕ) → is_nan (round f s a b) ≡ false
-unfolding round
-round_number f s a b = units_number f s _ _
-
 sum_number : (f : Format) (s : Bool) (a : ℕ) (t : Bool) (b c : ℕ) → is_nan (sum f s a t b c) ≡ false
 unfolding sum
 sum_number f s a t b c =
@@ -87,13 +74,6 @@ pub distance-plain : (x y : Float) → T (finite x) → T (finite y) → Plain (
 distance-plain x y p q = plain-abs (sub binary32 x y) (sub-fits binary32 x y) (sub_number x y p q)
 
 -- ---- the pattern of a value without its sign
-minus_plus : (m : ℕ) (e : ℤ) → to_bits binary32 (fin true m e) ≡ 0x8000_0000 + to_bits binary32 (fin false m e)
-unfolding to_bits
-minus_plus m e = regroup _ _
-  where
-    regroup : (a b : ℕ) → 0x8000_0000 + a + b ≡ 0x8000_0000 + (0 + a + b)
-    regroup a b = omega arith
-
 pub bits-abs : (x : Float) → T (fits binary32 x) → to_bits binary32 (abs_f x) ≡ to_bits binary32 x % 0x8000_0000
 unfolding abs_f in_range
 bits-abs nan h = unfold to_bits in refl

@@ -1,16 +1,18 @@
 -- Laws of records in a buffer.
 use mathlib.Core.Path.{◌≡◌, refl, ◌∙◌, ap, sym}
-use mathlib.Core.Bool.{false, and-false}
+use mathlib.Core.Bool.{◌&&◌}
 use mathlib.Core.List.{List, [], ◌++◌, append-nil}
-use mathlib.Core.Logic.{inl, inr}
 use Prim.Native.Nat.{ℕ, zero, suc, ◌≤◌, ◌<◌, ◌+◌, ◌-◌, ◌*◌}
-use native.Mathlib.Nat.{zero-add, eq-or-lt_of_le}
+use native.Mathlib.Nat.{zero-add}
 use native.Mathlib.Omega.{arith}
 use lib.ListN.{length, drop, take, get_or, length-drop, length-append, get_or-append, drop_of_length-le}
 use lib.Seq.{get_or-take, get_or-drop, take_all, drop-drop, sets, sets-eq, take-append_seam, drop-append-add, drop-append_seam}
 use borrow.Rule.Slice.PartMut.{put_mid}
+use Rattle.std.specs.List.{list_all}
+use Rattle.std.specs.Simd.{first_chunks}
 use Rattle.record.specs.Record.{size, peak_from, peak_at, sound, all_sound}
 use Rattle.record.proofs.RoundTrip.{own-words}
+use Rattle.std.proofs.Math.Bool.{and_assoc, and-true}
 
 -- r words R, written through the part `&mut out[a..]`
 pub put-part : {A : Type 0} (out R last : List A) (a r : ℕ) → last ≡ R ++ drop r (take (length out - a) (drop a out))
@@ -21,6 +23,10 @@ put-part out R last a r hl =
     let l : last ≡ R ++ drop (a + r) out = hl ∙ ap (λ x. R ++ drop r x) all ∙ ap (λ x. R ++ x) (drop-drop r a out) in
     simp (none, l, append-nil)
 
+-- r words R put in the place of as many
+pub put-record : {A : Type 0} (out R last : List A) (a r : ℕ) → last ≡ R → put_mid a (a + r - a) out last ≡ take a out ++ (R ++ drop (a + r) out)
+put-record out R last a r e = let n : a + r - a ≡ r = omega arith in rw (e, n, drop-drop r a out)
+
 -- words ws stored at the front of d one by one, and then others, R, right behind them
 pub put-behind : {A : Type 0} (ws R d last : List A) (r : ℕ) → length ws + r ≤ length d
     → last ≡ take (length ws) (sets d 0 ws) ++ (R ++ drop (length ws + r) (sets d 0 ws))
@@ -28,11 +34,6 @@ pub put-behind : {A : Type 0} (ws R d last : List A) (r : ℕ) → length ws + r
 put-behind ws R d last r h e =
     let s : sets d 0 ws ≡ ws ++ drop (length ws) d = rw zero-add at (sets-eq ws d 0 (omega arith)) in
     e ∙ rw (s, take-append_seam, drop-append-add, drop-drop)
-
--- a record read at the front of the part `&list[a..]`
-pub part-peak : (list : List ℕ) (a : ℕ) → a + size ≤ length list → peak_from (take (length list - a) (drop a list)) 0 ≡ peak_from list a
-part-peak list a h = own-words (take (length list - a) (drop a list)) list 0 a (λ j b.
-    rw zero-add (get_or-take (length list - a) (drop a list) j 0 (omega arith) ∙ get_or-drop a list j 0))
 
 -- the first records of a list are those of its front
 pub front-peak : (list : List ℕ) (n k : ℕ) → k < n → peak_at (take (n * size) list) k ≡ peak_at list k
@@ -57,12 +58,24 @@ pub chunk-room : (list w rest : List ℕ) (k : ℕ) → k * size ≤ length list
 chunk-room list w rest k h n e =
     let l : length list - k * size ≡ length w + length rest = sym (length-drop (k * size) list) ∙ ap length e ∙ length-append w rest in omega (arith, l, n)
 
--- one peak that is not sound
-pub one-not-sound : (l : List ℕ) (k n : ℕ) → k < n → sound (peak_at l k) ≡ false → all_sound l n ≡ false
+-- the records of a list, as chunks of it
+pub chunk-is : (n k : ℕ) (l : List ℕ) → k < n → get_or (first_chunks size n l) k [] ≡ take size (drop (k * size) l)
+chunk-is zero k l h = absurd (omega arith)
+chunk-is (suc n) zero l h = refl
+chunk-is (suc n) (suc k) l h =
+    let m : suc k * size ≡ size + k * size = omega arith in
+    chunk-is n k (drop size l) (omega arith) ∙ rw m (ap (take size) (drop-drop (k * size) size l))
+
+pub own-chunk : (l : List ℕ) (k : ℕ) → peak_from (take size (drop (k * size) l)) 0 ≡ peak_at l k
+own-chunk l k = own-words (take size (drop (k * size) l)) l 0 (k * size) (λ j b. rw zero-add (get_or-take size (drop (k * size) l) j 0 b ∙ get_or-drop (k * size) l j 0))
+
+-- what is found of the first j records, and then of n more
+pub all-chunks : (l : List ℕ) (n j : ℕ) → (all_sound l j && list_all (λ w. sound (peak_from w 0)) (first_chunks size n (drop (j * size) l))) ≡ all_sound l (n + j)
 unfolding all_sound
-one-not-sound l k zero h e = absurd (omega arith)
-one-not-sound l k (suc n) h e =
-    let m : k ≤ n = omega arith in elim (eq-or-lt_of_le m) [
-      | inl i ↦ rw (← i, e) (and-false (all_sound l k))
-      | inr i ↦ rw (one-not-sound l k n i e)
-    ]
+all-chunks l zero j = rw zero-add (and-true (all_sound l j))
+all-chunks l (suc n) j =
+    let m : suc j * size ≡ j * size + size = omega arith in
+    let e : suc n + j ≡ n + suc j = omega arith in
+    rw e
+    (sym (and_assoc (all_sound l j) (sound (peak_from (take size (drop (j * size) l)) 0)) (list_all (λ w. sound (peak_from w 0)) (first_chunks size n (drop size (drop (j * size) l)))))
+    ∙ rw (own-chunk l j, drop-drop size (j * size) l, ← m) (all-chunks l n (suc j)))

@@ -1,11 +1,11 @@
 -- What answers say is as strong as which answers they are.
 use mathlib.Core.Path.{◌≡◌, refl, ◌∙◌, ap}
 use mathlib.Core.Bool.{Bool, true, false, cond}
-use mathlib.Core.Option.{none, some, get_or}
+use mathlib.Core.Option.{none, some}
 use Prim.Native.Nat.{ℕ}
 use borrow.Author.Tests.{ne_eqb}
 use lib.Dec.{eqb}
-use Rattle.refusal.specs.Answers.{Says, answer_by}
+use Rattle.refusal.specs.Answers.{answer_by}
 use Rattle.refusal.specs.AnswersLaws.{from_option, from_says, Told}
 
 -- the two ways to answer, for a function that has the number n and values w
@@ -20,17 +20,5 @@ pub which : {A R : Type 0} → Told A R
 which accepted refused says again r n v e = again r ∙ ap (from_says accepted refused) e ∙ go (eqb n 0)
   where
     go : (z : Bool) → from_option accepted (refused n) (cond z (some v) none) ≡ cond z (accepted v) (refused n)
-    go true = refl
-    go false = refl
-
--- the count that goes with a number, where the value is a count: 0 where a number applies
-abbrev pub count_in : Says ℕ → ℕ
-count_in s = get_or s.values 0
-
--- the count that is answered
-pub count-says : (s : Says ℕ) (n count : ℕ) → s ≡ answer_by n count → count_in s ≡ cond (eqb n 0) count 0
-count-says s n count e = ap count_in e ∙ go (eqb n 0)
-  where
-    go : (z : Bool) → count_in (record { number = n; values = cond z (some count) none }) ≡ cond z count 0
     go true = refl
     go false = refl

@@ -8,7 +8,8 @@ use borrow.Author.Tests.{not-true, eq-eqb, ne_eqb, ltb-true}
 use lib.Dec.{eqb, ltb}
 use Rattle.refusal.specs.Refusal.{Check, first_of, clear, refuses, ascending_from, Lowest}
 use Rattle.refusal.specs.RefusalLaws.{IsLowest, LowestIs, ZeroForNone, NoneAtZero}
-use Rattle.refusal.proofs.Bools.{clash, both, and-false}
+use Rattle.refusal.proofs.Bools.{clash, both}
+use Rattle.std.proofs.Math.Bool.{and-false}
 
 -- ---- one check
 

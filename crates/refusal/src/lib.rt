@@ -7,8 +7,8 @@ ghost use Rattle.refusal.specs.Numbered.{number_of, Named};
 use std::error::Error;
 use std::fmt;
 
-// Why an input is refused: document 01's numbers.
-#[derive(Clone, Copy, Debug, PartialEq, Eq, Hash)]
+// Why an input is refused: document 01's numbers, and their order.
+#[derive(Clone, Copy, Debug, PartialEq, Eq, PartialOrd, Ord, Hash)]
 pub enum Refusal {
     Lengths = 1,
     Size = 2,

@@ -42,11 +42,13 @@ fn area(function: u32, line: &mut Line<'_>) -> Option<u32> {
     let from = float(line)?;
     let to = float(line)?;
     let r = probe::probe_area(row(line)?, from, to);
-    let number = (r / 4294967296) as u32;
+    let area = match (r / 4294967296) as u32 {
+        0 => Ok(r as u32),
+        number => Err(number),
+    };
     Some(match function {
-        17 => number,
-        _ if number == 0 => r as u32,
-        _ => 0xffff_ffff,
+        17 => area.err().unwrap_or(0),
+        _ => area.unwrap_or(0xffff_ffff),
     })
 }
 

@@ -7,8 +7,8 @@
 //  places of the lent list; scale, bounds, group (0 or 1, and its number), parameters and first identity; the five lists; then
 //  the number, the count and the words of the list. The scratch must keep what it has, past the columns, or after a refusal
 //  everywhere.
-use super::lines::{Answer, ROOM, floats, words};
-use hexlines::parts::{Line, front, word};
+use super::lines::{Answer, ROOM};
+use hexlines::parts::{Line, float, front, word};
 use params::{FrameBounds, ImDetectParams};
 use tof::TofScale;
 
@@ -35,7 +35,7 @@ fn row_answer(
         word(w, 14) != 0,
         word(w, 15),
         mobility,
-        numeric::float_of(word(w, 16)),
+        float(w, 16),
         word(w, 17),
         word(w, 18),
         axis,
@@ -72,11 +72,11 @@ fn grid_answer<'a>(
         window_group: group,
     };
     let p = ImDetectParams {
-        min_prom: numeric::float_of(word(w, 20)),
+        min_prom: float(w, 20),
         min_distance_scans: word(w, 21),
         min_width_scans: word(w, 22),
     };
-    match grid::detect_im_peaks_from_tof_scan_grid(
+    entryword::word_of(grid::detect_im_peaks_from_tof_scan_grid(
         rows as usize,
         cols as usize,
         data,
@@ -90,10 +90,7 @@ fn grid_answer<'a>(
         word(w, 23),
         out,
         scratch,
-    ) {
-        Ok(n) => (n % 4294967296) as u64 * 64,
-        Err(refusal) => refusal.number() as u64,
-    }
+    ))
 }
 
 // The number, the count and a list of that many peaks. After a refusal no scratch may have changed.
@@ -114,10 +111,10 @@ fn records<'a>(out: &'a mut [u32; ROOM], head: &[u32], i: usize) -> &'a mut [u32
 
 pub(crate) fn row(line: &mut Line<'_>, out: &mut [u32; ROOM]) -> Option<Answer> {
     let head = line.take_words(20)?;
-    let y = floats(line, head, 1)?;
-    let z = floats(line, head, 2)?;
-    let axis = words(line, head, 3)?;
-    let mobility = floats(line, head, 4)?;
+    let y = line.next_floats(head, 1)?;
+    let z = line.next_floats(head, 2)?;
+    let axis = line.next_words(head, 3)?;
+    let mobility = line.next_floats(head, 4)?;
     let r = row_answer(head, y, z, axis, mobility, records(out, head, 5));
     Some(peaks(r, 0))
 }
@@ -128,11 +125,11 @@ pub(crate) fn grid(
     scratch: &mut [f32; ROOM],
 ) -> Option<Answer> {
     let head = line.take_words(24)?;
-    let data = floats(line, head, 3)?;
-    let raw = floats(line, head, 4)?;
-    let scans = words(line, head, 5)?;
-    let mobility = floats(line, head, 6)?;
-    let weights = floats(line, head, 7)?;
+    let data = line.next_floats(head, 3)?;
+    let raw = line.next_floats(head, 4)?;
+    let scans = line.next_words(head, 5)?;
+    let mobility = line.next_floats(head, 6)?;
+    let weights = line.next_floats(head, 7)?;
     let space = front(scratch, word(head, 8) as usize);
     let list = records(out, head, 9);
     let r = grid_answer(head, data, raw, scans, mobility, weights, list, space);
@@ -146,8 +143,8 @@ pub(crate) fn smoothing(
     scratch: &mut [f32; ROOM],
 ) -> Option<Answer> {
     let head = line.take_words(4)?;
-    let row = floats(line, head, 1)?;
-    let weights = floats(line, head, 2)?;
+    let row = line.next_floats(head, 1)?;
+    let weights = line.next_floats(head, 2)?;
     let n = row.len();
     let k = word(head, 3) as usize;
     let lent = v.get_mut(..n)?;

@@ -4,15 +4,6 @@ use hexlines::parts::{Line, word};
 // The words that a line may have.
 pub(crate) const ROOM: usize = 4096;
 
-// The next list of a line, whose length is word i of its head.
-pub(crate) fn words<'a>(line: &mut Line<'a>, head: &[u32], i: usize) -> Option<&'a [u32]> {
-    line.take_words(word(head, i) as usize)
-}
-
-pub(crate) fn floats<'a>(line: &mut Line<'a>, head: &[u32], i: usize) -> Option<&'a [f32]> {
-    line.take_floats(word(head, i) as usize)
-}
-
 // An answer: its first words and how many there are, and how many more stand in the lent list or in the smoothed row. The scratch may have
 // changed in front of a place.
 #[derive(Clone, Copy)]

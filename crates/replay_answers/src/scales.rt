@@ -8,7 +8,7 @@
 //  43, center: a bin; then kind, centre and 0.
 //  44, center_at: a place between bins; then kind, centre and 0.
 //  45, tof_bounds_for_row: a bin; then kind, low and high edge.
-use super::lines::{Answer, short, words};
+use super::lines::{Answer, short};
 use hexlines::parts::{Line, word};
 use refusal::Refusal;
 use tof::TofScale;
@@ -24,7 +24,7 @@ fn refused(refusal: Refusal) -> Answer {
 
 pub(crate) fn build(line: &mut Line<'_>) -> Option<Answer> {
     let head = line.take_words(3)?;
-    let tofs = words(line, head, 2)?;
+    let tofs = line.next_words(head, 2)?;
     let a = match TofScale::build_from_frames(tofs, word(head, 1)) {
         Ok(Some(s)) => Answer {
             words: [0, s.tof_min, s.tof_max, s.tof_step, s.num_bins],

@@ -3,21 +3,21 @@
 // that are lent for records and scratch; the three lists. Then the number, the count, and the records. 9, the fallback: the lengths of the
 // trace, frame numbers, times and record; fraction and first identity; the words that are lent; the four lists. Then the number, the
 // count, and the record.
-use super::lines::{BEFORE, ROOM, Stored, float, floats, has, kept, lent, words};
-use hexlines::parts::{Line, word};
+use super::lines::{BEFORE, ROOM, Stored, has, kept, lent};
+use hexlines::parts::{Line, float, word};
 
 pub(crate) fn noise_agrees(line: &mut Line<'_>) -> Option<bool> {
     let head = line.take_words(2)?;
-    let signal = floats(line, head, 1)?;
+    let signal = line.next_floats(head, 1)?;
     let stored = Stored::next(line, 1)?;
     Some(stored.is(rtapi::trace::rubzolena_robust_noise_mad(signal)))
 }
 
 pub(crate) fn search_agrees(line: &mut Line<'_>) -> Option<bool> {
     let head = line.take_words(10)?;
-    let smoothed = floats(line, head, 1)?;
-    let raw = floats(line, head, 2)?;
-    let times = floats(line, head, 3)?;
+    let smoothed = line.next_floats(head, 1)?;
+    let raw = line.next_floats(head, 2)?;
+    let times = line.next_floats(head, 3)?;
     let stored = Stored::next(line, 1)?;
     let mut out = [BEFORE; ROOM];
     let mut scratch = [BEFORE; ROOM];
@@ -38,10 +38,10 @@ pub(crate) fn search_agrees(line: &mut Line<'_>) -> Option<bool> {
 
 pub(crate) fn fallback_agrees(line: &mut Line<'_>) -> Option<bool> {
     let head = line.take_words(8)?;
-    let trace = floats(line, head, 1)?;
-    let ids = words(line, head, 2)?;
-    let times = floats(line, head, 3)?;
-    let record = words(line, head, 4)?;
+    let trace = line.next_floats(head, 1)?;
+    let ids = line.next_words(head, 2)?;
+    let times = line.next_floats(head, 3)?;
+    let record = line.next_words(head, 4)?;
     let stored = Stored::next(line, 1)?;
     let mut out = [BEFORE; ROOM];
     let r = rtapi::single::rubzolena_fallback_rt_peak(

@@ -1,13 +1,13 @@
 // A line of the first call: 10; the lengths of record, frame numbers and times; the nine numbers of the parameters; the words that are
 // lent; the three lists. Then the number, the count, and the window.
-use super::lines::{BEFORE, ROOM, Stored, float, floats, has, lent, words};
-use hexlines::parts::{Line, word};
+use super::lines::{BEFORE, ROOM, Stored, has, lent};
+use hexlines::parts::{Line, float, word};
 
 pub(crate) fn agrees(line: &mut Line<'_>) -> Option<bool> {
     let head = line.take_words(14)?;
-    let record = words(line, head, 1)?;
-    let ids = words(line, head, 2)?;
-    let times = floats(line, head, 3)?;
+    let record = line.next_words(head, 1)?;
+    let ids = line.next_words(head, 2)?;
+    let times = line.next_floats(head, 3)?;
     let stored = Stored::next(line, 1)?;
     let mut out = [BEFORE; ROOM];
     let r = rtapi::window::rubzolena_expand_window(

@@ -1,13 +1,13 @@
 // A line of a frame: 1; the lengths of its TOF values, scans and readings; the scale, the count of scans and the points before it; the
 // words that are lent of the seven lists; the three lists. Then the number, the counts of bins, offsets and points, and these.
-use super::lines::{BEFORE, ROOM, Stored, floats, has, kept, lent, patterns, words};
+use super::lines::{BEFORE, ROOM, Stored, has, kept, lent, patterns};
 use hexlines::parts::{Line, word};
 
 pub(crate) fn agrees(line: &mut Line<'_>) -> Option<bool> {
     let head = line.take_words(17)?;
-    let tofs = words(line, head, 1)?;
-    let points = words(line, head, 2)?;
-    let values = floats(line, head, 3)?;
+    let tofs = line.next_words(head, 1)?;
+    let points = line.next_words(head, 2)?;
+    let values = line.next_floats(head, 3)?;
     let stored = Stored::next(line, 3)?;
     let mut bins = [BEFORE; ROOM];
     let mut offsets = [BEFORE; ROOM];

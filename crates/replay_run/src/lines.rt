@@ -1,5 +1,5 @@
 // Lists that are lent, and the answer of a line.
-ghost use Rattle.std.specs.Prelude.{◌≤◌, ◌<◌};
+ghost use Rattle.std.specs.Prelude.{◌≤◌, ◌<◌, ◌+◌};
 
 use hexlines::parts::{Line, front, word};
 
@@ -9,22 +9,34 @@ pub(crate) const ROOM: usize = 1024;
 // What a lent list holds at first; as a float, 7.0.
 pub(crate) const BEFORE: u32 = 0x40e0_0000;
 
-// The next list of a line, whose length is word i of its head.
-pub(crate) fn words<'a>(line: &mut Line<'a>, head: &[u32], i: usize) -> Option<&'a [u32]> {
-    line.take_words(word(head, i) as usize)
-}
-
-pub(crate) fn floats<'a>(line: &mut Line<'a>, head: &[u32], i: usize) -> Option<&'a [f32]> {
-    line.take_floats(word(head, i) as usize)
-}
-
 // What is lent of a list: as many places as word i of a line's head says.
 pub(crate) fn lent<'a, T>(list: &'a mut [T; ROOM], head: &[u32], i: usize) -> &'a mut [T] {
     front(list, word(head, i) as usize)
 }
 
-pub(crate) fn float(head: &[u32], i: usize) -> f32 {
-    numeric::float_of(word(head, i))
+// The five lists of a frame index.
+#[derive(Clone, Copy)]
+pub(crate) struct Index<'a> {
+    pub starts: &'a [u32],
+    pub bins: &'a [u32],
+    pub offsets: &'a [u32],
+    pub scans: &'a [u32],
+    pub readings: &'a [f32],
+}
+
+impl<'a> Index<'a> {
+    // The next five lists of a line, whose lengths stand in its head from place i on.
+    pub(crate) fn next(line: &mut Line<'a>, head: &[u32], i: usize) -> Option<Self>
+        requires { i + 4 < 0x1_0000_0000_0000_0000 }
+    {
+        Some(Index {
+            starts: line.next_words(head, i)?,
+            bins: line.next_words(head, i + 1)?,
+            offsets: line.next_words(head, i + 2)?,
+            scans: line.next_words(head, i + 3)?,
+            readings: line.next_floats(head, i + 4)?,
+        })
+    }
 }
 
 // A number and the counts behind it, as a line has them.
@@ -52,7 +64,7 @@ impl<'a> Stored<'a> {
 
     // Whether a call answered the number and the first count.
     pub(crate) fn is(self, r: u64) -> bool {
-        r == word(self.words, 1) as u64 * 64 + word(self.words, 0) as u64
+        r == u64::from(word(self.words, 1)) * 64 + u64::from(word(self.words, 0))
     }
 
     // What of scratch may have changed: so many places of an accepted call.

@@ -2,18 +2,14 @@
 // times, weights and lengths; the scale, the nine numbers of the parameters, and the first identity; the words that are lent for
 // records, counts and the three lists of scratch; the ten lists. Then the number, the count, the length of the column of counts, the
 // column, and the records.
-use super::lines::{BEFORE, ROOM, Stored, float, floats, has, kept, lent, patterns, words};
-use hexlines::parts::{Line, word};
+use super::lines::{BEFORE, Index, ROOM, Stored, has, kept, lent, patterns};
+use hexlines::parts::{Line, float, word};
 
-// The ten lists of a line.
+// The ten lists of a line, five of them in the index.
 #[derive(Clone, Copy)]
 struct Lists<'a> {
     records: &'a [u32],
-    starts: &'a [u32],
-    bins: &'a [u32],
-    offsets: &'a [u32],
-    scans: &'a [u32],
-    readings: &'a [f32],
+    index: Index<'a>,
     ids: &'a [u32],
     times: &'a [f32],
     weights: &'a [f32],
@@ -23,21 +19,17 @@ struct Lists<'a> {
 impl<'a> Lists<'a> {
     fn next(line: &mut Line<'a>, head: &[u32]) -> Option<Self> {
         Some(Lists {
-            records: words(line, head, 1)?,
-            starts: words(line, head, 2)?,
-            bins: words(line, head, 3)?,
-            offsets: words(line, head, 4)?,
-            scans: words(line, head, 5)?,
-            readings: floats(line, head, 6)?,
-            ids: words(line, head, 7)?,
-            times: floats(line, head, 8)?,
-            weights: floats(line, head, 9)?,
-            lengths: words(line, head, 10)?,
+            records: line.next_words(head, 1)?,
+            index: Index::next(line, head, 2)?,
+            ids: line.next_words(head, 7)?,
+            times: line.next_floats(head, 8)?,
+            weights: line.next_floats(head, 9)?,
+            lengths: line.next_words(head, 10)?,
         })
     }
 }
 
-// The word of the C entry for one mobility peak.
+// The word of the C entry for one mobility peak. The C entries take what they are handed one by one, and so do the two calls.
 fn answer_one(
     head: &[u32],
     l: Lists<'_>,
@@ -48,11 +40,11 @@ fn answer_one(
 ) -> u64 {
     expandapi::one::rubzolena_expand_im_peak(
         l.records,
-        l.starts,
-        l.bins,
-        l.offsets,
-        l.scans,
-        l.readings,
+        l.index.starts,
+        l.index.bins,
+        l.index.offsets,
+        l.index.scans,
+        l.index.readings,
         l.ids,
         l.times,
         word(head, 11),
@@ -89,11 +81,11 @@ fn answer_many(
 ) -> u64 {
     expandapi::many::rubzolena_expand_many_im_peaks(
         l.records,
-        l.starts,
-        l.bins,
-        l.offsets,
-        l.scans,
-        l.readings,
+        l.index.starts,
+        l.index.bins,
+        l.index.offsets,
+        l.index.scans,
+        l.index.readings,
         l.ids,
         l.times,
         word(head, 11),

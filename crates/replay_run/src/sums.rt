@@ -2,18 +2,14 @@
 // those of many peaks; the lengths of starts, bins, offsets, scans and readings; the floats and the words of scratch that are lent; the
 // length of the list of peaks; nine numbers, as the function takes them, and 0 for those that it does not take; the six lists. Then the
 // number, the count, the count of the sums, and these.
-use super::lines::{BEFORE, ROOM, Stored, floats, has, kept, lent, patterns, words};
+use super::lines::{BEFORE, Index, ROOM, Stored, has, kept, lent, patterns};
 use hexlines::parts::{Line, word};
 
 // The word of the C entry, for the lists of a line. A match on the function, whose number the stored line has: the entries take different
 // lists.
 fn answer(
     head: &[u32],
-    starts: &[u32],
-    bins: &[u32],
-    offsets: &[u32],
-    scans: &[u32],
-    readings: &[f32],
+    index: Index<'_>,
     list: &[u32],
     out: &mut [f32],
     windows: &mut [u32],
@@ -24,6 +20,13 @@ fn answer(
     let d = word(head, 12);
     let e = word(head, 13);
     let f = word(head, 14);
+    let Index {
+        starts,
+        bins,
+        offsets,
+        scans,
+        readings,
+    } = index;
     match word(head, 0) {
         2 => framesapi::blocks::rubzolena_build_rt_marginal(
             starts, bins, offsets, scans, readings, a, b, c, d, e, f, out,
@@ -59,22 +62,14 @@ fn answer(
 
 pub(crate) fn agrees(line: &mut Line<'_>) -> Option<bool> {
     let head = line.take_words(18)?;
-    let starts = words(line, head, 1)?;
-    let bins = words(line, head, 2)?;
-    let offsets = words(line, head, 3)?;
-    let scans = words(line, head, 4)?;
-    let readings = floats(line, head, 5)?;
-    let list = words(line, head, 8)?;
+    let index = Index::next(line, head, 1)?;
+    let list = line.next_words(head, 8)?;
     let stored = Stored::next(line, 2)?;
     let mut out = [7f32; ROOM];
     let mut windows = [BEFORE; ROOM];
     let r = answer(
         head,
-        starts,
-        bins,
-        offsets,
-        scans,
-        readings,
+        index,
         list,
         lent(&mut out, head, 6),
         lent(&mut windows, head, 7),

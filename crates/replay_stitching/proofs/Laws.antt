@@ -24,6 +24,7 @@ use Rattle.stitch.proofs.Laws.{accepted}
 use Rattle.capi.specs.Stitching.{Answered}
 use Rattle.replay_stitching.specs.Replay.{word, room, rooms_in, list_in, params_in, told_in, answer_to, same, agrees_in}
 use Rattle.replay_stitching.specs.Steps.{owners_by, has_in}
+use Rattle.std.proofs.Math.Bool.{and_assoc}
 
 -- ---- lists that are the same
 
@@ -34,16 +35,12 @@ compared [] (y ∷ ys) = refl
 compared (x ∷ xs) [] = refl
 compared (x ∷ xs) (y ∷ ys) = ap (λ (z : Bool). eqb x y && z) (compared xs ys)
 
-and_assoc : (a b c : Bool) → (a && (b && c)) ≡ (a && b && c)
-and_assoc true b c = refl
-and_assoc false b c = refl
-
 -- a list is the same as two in a row where its two parts are
 same_parts : (l a b : List ℕ) → same l (a ++ b) ≡ (same (take (length a) l) a && same (drop (length a) l) b)
 unfolding same
 same_parts l [] b = refl
 same_parts [] (y ∷ ys) b = refl
-same_parts (x ∷ xs) (y ∷ ys) b = rw (same_parts xs ys b) (and_assoc (eqb x y) (same (take (length ys) xs) ys) (same (drop (length ys) xs) b))
+same_parts (x ∷ xs) (y ∷ ys) b = rw (same_parts xs ys b) (sym (and_assoc (eqb x y) (same (take (length ys) xs) ys) (same (drop (length ys) xs) b)))
 
 -- ---- parts
 
@@ -68,7 +65,7 @@ in_parts : (rest words owners : List ℕ) (a b : ℕ)
     ≡ same rest ((a ∷ b ∷ []) ++ (words ++ owners))
 in_parts rest words owners a b =
     rw (same_parts rest (a ∷ b ∷ []) (words ++ owners), same_parts (drop 2 rest) words owners, drop-drop (length words) 2 rest)
-    (sym (and_assoc (same (take 2 rest) (a ∷ b ∷ [])) (same (take (length words) (drop 2 rest)) words) (same (drop (2 + length words) rest) owners)))
+    (and_assoc (same (take 2 rest) (a ∷ b ∷ [])) (same (take (length words) (drop 2 rest)) words) (same (drop (2 + length words) rest) owners))
 
 -- the words that are lent
 lent-words : (l : List ℕ) (n k : ℕ) → length l ≡ room → n ≡ min k room → length (take n l) ≡ min k room

@@ -7,9 +7,9 @@ ghost use Rattle.replay_stitching.specs.Replay.{params_in, told_in, agrees_in, a
 ghost use Rattle.replay_stitching.specs.Steps.{owners_by, has_in};
 
 use super::words::{ROOM, lent, part};
-use hexlines::parts::word;
+use hexlines::parts::{float, word};
 
-// The answer of the C entry.
+// The answer of the C entry, which takes its six lists one by one.
 fn answer(
     line: &[u32],
     list: &[u32],
@@ -29,11 +29,11 @@ fn answer(
         list,
         word(line, 7),
         word(line, 8),
-        numeric::float_of(word(line, 9)),
+        float(line, 9),
         word(line, 10),
         word(line, 11),
         word(line, 12),
-        numeric::float_of(word(line, 13)),
+        float(line, 13),
         word(line, 14),
         out,
         owners,

@@ -18,11 +18,6 @@ pub(crate) fn lent(line: &[u32], i: usize) -> usize
 pub(crate) fn part(list: &[u32], from: usize, n: usize) -> &[u32]
     ensures { result.now ≡ take n (drop from list.now) }
 {
-    if from <= list.len() {
-        if n <= list.len() - from {
-            return &list[from..from + n];
-        }
-        return &list[from..];
-    }
-    &list[..0]
+    let rest = list.get(from..).unwrap_or(&[]);
+    rest.get(..n).unwrap_or(rest)
 }

@@ -24,13 +24,14 @@ use Rattle.rtsearch.specs.Steps.{RtFound, RtSearchable}
 use Rattle.retention.specs.Trace.{peak_words, call_of, same_lengths, sound_readings, rt_number}
 use Rattle.retention.specs.Steps.{peaks_at, Checked}
 use Rattle.retention.proofs.TraceLaws.{none-for}
+use Rattle.std.proofs.lemmas.List.{map-append}
 
 -- ---- records
 
 words_long : (p : RtLocalPeak) → length (local_words p) ≡ local_size
 words_long p = refl
 
-peak-words-length : (ps : List RtLocalPeak) → length (peak_words ps) ≡ length ps * local_size
+pub peak-words-length : (ps : List RtLocalPeak) → length (peak_words ps) ≡ length ps * local_size
 unfolding peak_words
 peak-words-length [] = refl
 peak-words-length (p ∷ ps) = let r = peak-words-length ps in simp length-append (omega (arith, r))
@@ -40,10 +41,6 @@ unfolding peak_words
 peak-words-next [] p = append-nil (local_words p)
 peak-words-next (x ∷ ps) p =
     ap (λ (l : List ℕ). local_words x ++ l) (peak-words-next ps p) ∙ sym (append_assoc (local_words x) (peak_words ps) (local_words p))
-
-map_snoc : (f : ℕ → RtLocalPeak) (l : List ℕ) (p : ℕ) → map f (l ++ (p ∷ [])) ≡ map f l ++ (f p ∷ [])
-map_snoc f [] p = refl
-map_snoc f (x ∷ l) p = ap (λ (k : List RtLocalPeak). f x ∷ k) (map_snoc f l p)
 
 -- the records of the first k places of an order stand at the front of the list d
 module _ (y z t : List Float) (found order d : List ℕ) where
@@ -70,7 +67,7 @@ module _ (y z t : List Float) (found order d : List ℕ) where
       ∙ drop-drop local_size (k * local_size) d ∙ ap (λ (i : ℕ). drop i d) m in
       let g : peak_words (peaks_at y z t found (take (k + 1) order)) ≡ W ++ local_words p =
       ap (λ (a : List ℕ). peak_words (map f a)) (ap (λ (i : ℕ). take i order) (add-one k) ∙ take-suc order k 0 h)
-      ∙ ap peak_words (map_snoc f (take k order) (get_or order k 0))
+      ∙ ap peak_words (map-append f (take k order) (get_or order k 0 ∷ []))
       ∙ peak-words-next (map f (take k order)) (f (get_or order k 0))
       ∙ ap (λ (q : RtLocalPeak). W ++ local_words q) (sym e) in
       o ∙ rw (c, b, g) (sym (append_assoc W (local_words p) (drop ((k + 1) * local_size) d)))

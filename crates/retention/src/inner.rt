@@ -9,7 +9,7 @@ ghost use Rattle.rtsearch.specs.Steps.{RtSearchable};
 ghost use Rattle.retention.specs.Trace.{peak_words};
 ghost use Rattle.retention.specs.Steps.{peaks_at, Writable, Checked};
 
-use rowsearch::scratch::Scratch;
+use rowsearch::scratch::{Arrays, Scratch};
 use rtapex::inner::Trace;
 use rtsearch::inner::Sought;
 
@@ -43,28 +43,19 @@ pub fn list_rt_peaks(
 // The same with room for a trace of N frames, in arrays of their own, since one is filled before it is used. It is no part of its caller,
 // so that shorter traces do not pay for the frame of longer ones: 89 KiB for 4,096 frames, 353 KiB for 16,384.
 #[inline(never)]
-fn list_in<const N: usize, const B: usize, const F: usize>(
+fn list_in<const N: usize, const B: usize>(
     trace: Trace,
     asked: Sought,
     order: &mut [u32],
     out: &mut [u32],
 ) -> usize
     requires trace { Checked trace.smoothed.now trace.raw.now trace.times.now (length order.old) (length out.old) × (length trace.smoothed.now ≤ N) }
-    requires sizes { Sizes N B F }
+    requires sizes { Sizes N B }
     ensures count { result ≡ length (rt_peaks asked.floor asked.sep asked.min_width trace.entry.smoothed.now trace.entry.raw.now trace.entry.times.now) }
     ensures front { out.new ≡ peak_words (rt_peaks asked.floor asked.sep asked.min_width trace.entry.smoothed.now trace.entry.raw.now trace.entry.times.now) ++ drop (result * local_size) out.old }
 {
-    // Three arrays and a struct of them: a function that lends them to a closure would have more lines.
-    let mut turns = [0u32; N];
-    let mut bases = [0u32; B];
-    let mut found = [0u32; F];
-    let mut scratch = Scratch {
-        samples: N,
-        turns: &mut turns,
-        bases: &mut bases,
-        found: &mut found,
-    };
-    list_rt_peaks(trace, asked, &mut scratch, order, out)
+    let mut lists = Arrays::<N, B>::new();
+    list_rt_peaks(trace, asked, &mut lists.lend(N), order, out)
 }
 
 // The same for any trace of at most 16,384 frames.
@@ -75,13 +66,13 @@ pub fn find_rt_peaks(trace: Trace, asked: Sought, order: &mut [u32], out: &mut [
 {
     let n = trace.smoothed.len();
     if n <= 128 {
-        return list_in::<128, 96, 512>(trace, asked, order, out);
+        return list_in::<128, 96>(trace, asked, order, out);
     }
     if n <= 1024 {
-        return list_in::<1024, 800, 4096>(trace, asked, order, out);
+        return list_in::<1024, 800>(trace, asked, order, out);
     }
     if n <= 4096 {
-        return list_in::<4096, 2336, 16384>(trace, asked, order, out);
+        return list_in::<4096, 2336>(trace, asked, order, out);
     }
-    list_in::<16384, 8480, 65536>(trace, asked, order, out)
+    list_in::<16384, 8480>(trace, asked, order, out)
 }

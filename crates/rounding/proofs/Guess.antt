@@ -20,7 +20,7 @@ use Rattle.rounding.specs.Rounding.{floor_f, ceil_f, round_f}
 use Rattle.rounding.proofs.Laws.{zero_f, half_f, add_is, lt-is, half-value}
 
 -- ---- whole numbers and halves as floats
-index-value : (n : ℕ) → n ≤ 16777216 → HasValue (index_f n) false n 1
+pub index-value : (n : ℕ) → n ≤ 16777216 → HasValue (index_f n) false n 1
 unfolding of_int
 index-value n h = round_whole binary32 false n h
 

@@ -17,6 +17,7 @@ use lib.Ieee.Nearest.{closest, closest_same, nearest-ge}
 use lib.Ieee.Scale.{round_same}
 use Rattle.refusal.proofs.Bools.{clash}
 use Rattle.rounding.specs.Rounding.{below, above, nearby, whole_by, floor_f, ceil_f, round_f}
+use Rattle.numeric.proofs.Order.{mul-ltb}
 
 -- the literals 0, 0.5, 1 and 2 ^ 23
 abbrev pub zero_f : Float
@@ -32,12 +33,12 @@ abbrev pub top_f : Float
 top_f = fin false 1 (pos 23)
 
 -- ---- signs: a rounded fraction with its sign turned
-neg-odd : (d : ℕ) (s : Bool) (q k l : ℕ) → neg (odd d s q k l) ≡ odd d (not s) q k l
+pub neg-odd : (d : ℕ) (s : Bool) (q k l : ℕ) → neg (odd d s q k l) ≡ odd d (not s) q k l
 unfolding neg odd
 neg-odd d s zero k l = refl
 neg-odd d s (suc q) k l = refl
 
-neg-units : (s : Bool) (q k : ℕ) → neg (units binary32 s q k) ≡ units binary32 (not s) q k
+pub neg-units : (s : Bool) (q k : ℕ) → neg (units binary32 s q k) ≡ units binary32 (not s) q k
 unfolding neg units
 neg-units s q k = go (ltb (q * 2 ^ k) (2 ^ 277))
   where
@@ -45,7 +46,7 @@ neg-units s q k = go (ltb (q * 2 ^ k) (2 ^ 277))
     go true = neg-odd 25 s q k 149
     go false = refl
 
-neg-round : (s : Bool) (a d : ℕ) → neg (round binary32 s a d) ≡ round binary32 (not s) a d
+pub neg-round : (s : Bool) (a d : ℕ) → neg (round binary32 s a d) ≡ round binary32 (not s) a d
 neg-round s a d =
     let n = a * 2 ^ 149 in
     let k = size (n / d) - 24 in
@@ -80,7 +81,7 @@ fits-parts s m e t =
     let d : Bool = ltb (suc m * up e) (2 ^ 128 * down e) in
     (ltb→lt (suc m) (2 ^ 24) (and_r a b (and_l (a && b) c (and_l (a && b && c) d t))), ltb→lt (suc m * up e) (2 ^ 128 * down e) (and_r (a && b && c) d t))
 
-fits-small : (s : Bool) (m : ℕ) (e : ℤ) → T (fits binary32 (fin s m e)) → m < 2 ^ 24
+pub fits-small : (s : Bool) (m : ℕ) (e : ℤ) → T (fits binary32 (fin s m e)) → m < 2 ^ 24
 fits-small s zero e t = lit< tt
 fits-small s (suc m) e t = (fits-parts s m e t).0
 
@@ -181,13 +182,6 @@ sub_is (fin false m e) (fin false n g) a b l v w =
     rw (le-ltb p q (omega arith))
     (round_same binary32 false (p - q) u (a - b) 1 U (lit< tt) (mul-one (p - q) ∙ ap (λ (z : ℕ). z - q) ep ∙ ap (λ (z : ℕ). a * u - z) eq ∙ sym (sub-mul a b u)))
 
-ltb-scale : (a b d : ℕ) → 0 < d → ltb (a * d) (b * d) ≡ ltb a b
-ltb-scale a b d p = go (ltb a b) refl
-  where
-    go : (t : Bool) → ltb a b ≡ t → ltb (a * d) (b * d) ≡ ltb a b
-    go true e = lt-ltb (a * d) (b * d) (mul-lt-mul_of_pos_right (ltb-true a b e) p) ∙ sym e
-    go false e = le-ltb (a * d) (b * d) (mul-le-mul_right d (ltb-false a b e)) ∙ sym e
-
 pub lt-is : (x y : Float) (a c b d : ℕ) → 0 < c → 0 < d → HasValue x false a c → HasValue y false b d → lt x y ≡ ltb (a * d) (b * c)
 unfolding lt
 lt-is nan y a c b d C D v w = absurd v
@@ -200,10 +194,10 @@ lt-is (fin false m e) (fin false n g) a c b d C D v w =
     let p = m * up e * down g in
     let q = n * up g * down e in
     let u = down e * down g in
-    sym (ltb-scale p q (c * d) (mul-pos C D))
+    sym (mul-ltb p q (c * d) (mul-pos C D))
     ∙ ap (λ (z : ℕ). ltb z (q * (c * d))) (cross (m * up e) a c (down e) (down g) d v.1)
     ∙ ap (λ (z : ℕ). ltb (a * d * u) z) (cross' (n * up g) b c (down e) (down g) d w.1)
-    ∙ ltb-scale (a * d) (b * c) u (mul-pos (down_pos e) (down_pos g))
+    ∙ mul-ltb (a * d) (b * c) u (mul-pos (down_pos e) (down_pos g))
 
 -- ---- from 2 ^ 23 to 2 ^ 24 rounding gives one of the two whole numbers next to the fraction
 -- a whole number written over p

@@ -8,6 +8,8 @@ ghost use Rattle.std.specs.Float.{binary32};
 ghost use Rattle.std.specs.Float.Ieee.{lt, of_bits};
 ghost use Rattle.rounding.specs.Rounding.{floor_f, ceil_f, round_f};
 
+// Floor, ceil and round are the port's own, as document 01 has them. Core's take 4.1 ns in place of 2.9.
+
 pub fn floor(x: f32) -> f32
     ensures { result ≡ floor_f x }
 {

@@ -9,9 +9,9 @@ use borrow.Author.Tests.{not-false, eqb-true, ltb-false, leb-true}
 use lib.Dec.{eqb}
 use lib.ListN.{length, get_or, take, drop, get_or-eq_default}
 use lib.Seq.{take_at, drop-drop, drop-append-add}
-use lib.Ieee.{Float, binary32, neg, of_bits}
+use lib.Ieee.{Float}
 use Rattle.limits.specs.Limits.{max_samples, any_number, max_height, identities, exact_index}
-use Rattle.numeric.specs.Arith.{at, 𝟎, ½}
+use Rattle.numeric.specs.Arith.{at, 𝟎}
 use Rattle.numeric.specs.Numeric.{all_in_range}
 use Rattle.refusal.proofs.Bools.{both, all3, all5}
 use Rattle.numeric.proofs.Patterns.{all-wider}
@@ -22,14 +22,14 @@ use Rattle.params.specs.Params.{most_peaks, sound_params}
 use Rattle.params.specs.declared.ImDetectParams.{ImDetectParams}
 use Rattle.params.specs.declared.RowPlace.{RowPlace}
 use Rattle.params.specs.declared.FrameBounds.{FrameBounds}
-use Rattle.std.specs.Prelude.{Option}
-use Rattle.std.specs.Prelude.{None, Some}
+use Rattle.std.specs.Prelude.{Option, None, Some}
+use Rattle.std.specs.Option.{unwrap_or}
 use Rattle.rowsearch.specs.Qualifying.{left_x, right_x, width}
 use Rattle.rowsearch.specs.Found.{measured_of, measured_at, oldest, Searchable}
 use Rattle.rowsearch.specs.declared.inner.Measured.{Measured}
-use Rattle.rowsearch.proofs.Laws.{Next}
+use Rattle.rowsearch.proofs.Laws.{Next, measured-index}
 use Rattle.row.specs.declared.inner.OnAxes.{OnAxes}
-use Rattle.row.specs.Row.{on_axes, mobility_at, mobility_flag, group_flag, group_word, subscan, peak_of, row_words}
+use Rattle.row.specs.Row.{on_axes, mobility_at, mobility_of, mobility_flag, flag_of, group_flag, group_word, subscan, peak_of, row_words}
 use Rattle.row.specs.RowNumber.{same_lengths, sound_readings, sound_values, row_number}
 use Rattle.row.proofs.RowNumberLaws.{none-for}
 use Rattle.row.proofs.RowWords.{row-words-length}
@@ -37,30 +37,35 @@ use Rattle.row.specs.Written.{Written, as_words, stride, with_record}
 use Rattle.row.specs.Steps.{Writable, Numbers, Inside, RecordsPut}
 
 -- ---- the mobility table
-pub mobility-in : (t : List Float) (i : ℕ) → i < length t → get_or t i 𝟎 ≡ mobility_at t i
+pub no-mobility : (t : List Float) (i : ℕ) → length t ≡ 0 → None ≡ mobility_of t i
+no-mobility [] i h = refl
+no-mobility (m ∷ ms) i h = absurd (omega arith)
+
+pub mobility-in : (t : List Float) (i : ℕ) → i < length t → Some (get_or t i 𝟎) ≡ mobility_of t i
 mobility-in [] i h = absurd (omega arith)
 mobility-in (m ∷ ms) i h = refl
 
-pub mobility-out : (t : List Float) (i : ℕ) → length t ≤ i → 𝟎 ≡ mobility_at t i
-mobility-out [] i h = refl
-mobility-out (m ∷ ms) i h = sym (get_or-eq_default (m ∷ ms) 𝟎 h)
+pub mobility-out : (t : List Float) (i : ℕ) → (length t ≡ 0 → ⊥) → length t ≤ i → Some 𝟎 ≡ mobility_of t i
+mobility-out [] i e h = absurd (e refl)
+mobility-out (m ∷ ms) i e h = ap Some (sym (get_or-eq_default (m ∷ ms) 𝟎 h))
 
-pub mobility-flag-le : (t : List Float) → mobility_flag t ≤ 2
-mobility-flag-le [] = omega arith
-mobility-flag-le (m ∷ ms) = omega arith
+-- the fields of a peak by the mobility that it has
+value-is : (t : List Float) (i : ℕ) → mobility_at t i ≡ unwrap_or (mobility_of t i) 𝟎
+value-is [] i = refl
+value-is (m ∷ ms) i = refl
 
-pub group-flag-le : (g : Option ℕ) → group_flag g ≤ 1
-group-flag-le None = omega arith
-group-flag-le (Some w) = omega arith
+mobility-flag-is : (t : List Float) (i : ℕ) → mobility_flag t ≡ flag_of (mobility_of t i) 2
+mobility-flag-is [] i = refl
+mobility-flag-is (m ∷ ms) i = refl
 
-pub minus-half : neg ½ ≡ of_bits binary32 0xbf00_0000
-unfolding neg of_bits
-minus-half = refl
+group-flag-is : (g : Option ℕ) → group_flag g ≡ flag_of g 1
+group-flag-is None = refl
+group-flag-is (Some w) = refl
 
 -- ---- a peak, from what is measured of its apex
 module _ (place : RowPlace) (bounds : FrameBounds) (mobility : List Float) (axis : List ℕ) (y z : List Float) (a : Measured) (id : ℕ) (inside : Inside y z axis a) where
-  pub peak-is : (on : OnAxes) (su : Float) (flags group : ℕ) → on ≡ on_axes mobility axis a
-      → flags ≡ group_flag bounds.window_group + on.flag → group ≡ group_word bounds.window_group → su ≡ subscan y a.index
+  pub peak-is : (on : OnAxes) (su m : Float) (flags group : ℕ) → on ≡ on_axes mobility axis a
+      → flags ≡ flag_of bounds.window_group 1 + flag_of on.mobility 2 → m ≡ unwrap_or on.mobility 𝟎 → group ≡ group_word bounds.window_group → su ≡ subscan y a.index
       → record {
         tof_row = place.tof_row;
         tof_center = place.tof_center;
@@ -79,7 +84,7 @@ module _ (place : RowPlace) (bounds : FrameBounds) (mobility : List Float) (axis
         left_abs = on.left;
         right_abs = on.right;
         scan_sigma = 𝟎;
-        mobility = on.mobility;
+        mobility = m;
         apex_smoothed = at y a.index;
         apex_raw = at z a.index;
         prominence = a.prominence;
@@ -91,7 +96,7 @@ module _ (place : RowPlace) (bounds : FrameBounds) (mobility : List Float) (axis
         id = id;
       } ≡ peak_of place bounds mobility axis y z a.index id
   unfolding peak_of measured_of span_of left_x right_x width
-  peak-is on su flags group o e1 e2 e3 =
+  peak-is on su m flags group o e1 em e2 e3 =
       let i = inside.is in
       let ep = ap (λ (m : Measured). m.prominence) i in
       let ef = ap (λ (m : Measured). m.left) i in
@@ -100,17 +105,16 @@ module _ (place : RowPlace) (bounds : FrameBounds) (mobility : List Float) (axis
       let er = ap (λ (m : Measured). m.right_x) i in
       let ew = ap (λ (m : Measured). m.width) i in
       let ea = ap (λ (m : Measured). m.area) i in
-      rw (e1, e2, e3, o, ep, ef, et, el, er, ew, ea)
+      let v = value-is mobility a.index in
+      let f = mobility-flag-is mobility a.index in
+      let g = group-flag-is bounds.window_group in
+      rw (e1, em, e2, e3, o, ← v, ← f, ← g, ep, ef, et, el, er, ew, ea)
 
 -- ---- an apex that is read from a list
-index_is : (y z : List Float) (i : ℕ) → (measured_of y z i).index ≡ i
-unfolding measured_of
-index_is y z i = refl
-
 -- the apex at place j
 module _ (y z : List Float) (axis found ks : List ℕ) (j : ℕ) (a : Measured) (n : Next y z found ks j) (e : a ≡ measured_at found j) where
   pub read_is : a.index ≡ n.apex
-  read_is = ap (λ (m : Measured). m.index) (e ∙ n.at_place.is) ∙ index_is y z n.apex
+  read_is = ap (λ (m : Measured). m.index) (e ∙ n.at_place.is) ∙ measured-index y z n.apex
 
   pub read-inside : length z ≡ length y → length axis ≡ length y → length y ≤ exact_index → Inside y z axis a
   read-inside p q r =

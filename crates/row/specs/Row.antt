@@ -44,6 +44,15 @@ abbrev pub mobility_flag : List Float → ℕ
 mobility_flag [] = 0
 mobility_flag (m ∷ ms) = 2
 
+-- the same of a field, by whether it is there
+abbrev pub flag_of : {A : Type 0} → Option A → ℕ → ℕ
+flag_of None flag = 0
+flag_of (Some v) flag = flag
+
+abbrev pub mobility_of : List Float → ℕ → Option Float
+mobility_of [] i = None
+mobility_of (m ∷ ms) i = Some (get_or (m ∷ ms) i 𝟎)
+
 -- where what is measured of an apex lies on the scan axis, and its mobility
 abbrev pub on_axes : List Float → List ℕ → Measured → OnAxes
 on_axes mobility axis a =
@@ -51,8 +60,7 @@ on_axes mobility axis a =
       scan = scan_at axis a.index;
       left = scan_at axis a.left;
       right = scan_at axis a.right;
-      mobility = mobility_at mobility a.index;
-      flag = mobility_flag mobility;
+      mobility = mobility_of mobility a.index;
     }
 
 -- the peak of an apex, with its identity

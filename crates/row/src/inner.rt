@@ -8,7 +8,7 @@ ghost use Rattle.rowsearch.specs.SameLists.{SameLists};
 ghost use Rattle.rowsearch.specs.Qualifying.{kept};
 ghost use Rattle.rowsearch.specs.Found.{Searchable, Standing};
 ghost use Rattle.rowsearch.specs.Room.{Sizes};
-ghost use Rattle.row.specs.Row.{on_axes, subscan, scan_at, mobility_at, group_flag, group_word, mobility_flag, peak_of, row_words};
+ghost use Rattle.row.specs.Row.{on_axes, subscan, scan_at, mobility_of, flag_of, group_word, peak_of, row_words};
 ghost use Rattle.row.specs.Steps.{Inside, Writable, Numbers, RecordsPut};
 
 use super::column::Column;
@@ -16,7 +16,7 @@ use super::written::{AsWords, Written};
 use params::{FrameBounds, ImDetectParams, RowPlace};
 use record::{ImPeak1D, PeakId};
 use rowsearch::inner::Measured;
-use rowsearch::scratch::Scratch;
+use rowsearch::scratch::{Arrays, Scratch};
 
 fn scan_at<S: Column<u32>>(axis: S, k: usize) -> u32
     requires { 0 < length (S.items axis) }
@@ -34,30 +34,22 @@ fn subscan_of(y: &[f32], i: usize) -> f32
     numeric::clamp(offset, -0.5, 0.5)
 }
 
-fn mobility_at<M: Column<f32>>(mobility: M, i: usize) -> f32
-    ensures { result ≡ mobility_at (M.items mobility) i }
+// The mobility at a sample, where there are mobilities.
+fn mobility_of<M: Column<f32>>(mobility: M, i: usize) -> Option<f32>
+    ensures { result ≡ mobility_of (M.items mobility) i }
 {
-    if i < mobility.count() {
-        mobility.item(i)
-    } else {
-        0.0
+    let count = mobility.count();
+    if count == 0 {
+        return None;
     }
+    Some(if i < count { mobility.item(i) } else { 0.0 })
 }
 
-fn mobility_flag<M: Column<f32>>(mobility: M) -> u32
-    ensures { result ≡ mobility_flag (M.items mobility) }
+// The flag of a field that may be missing.
+fn flag_of<T: Copy>(field: Option<T>, flag: u32) -> u32
+    ensures { result ≡ flag_of field flag }
 {
-    if mobility.count() == 0 {
-        0
-    } else {
-        ImPeak1D::HAS_MOBILITY
-    }
-}
-
-fn group_flag(g: Option<u32>) -> u32
-    ensures { result ≡ group_flag g }
-{
-    if g.is_some() { ImPeak1D::HAS_GROUP } else { 0 }
+    if field.is_some() { flag } else { 0 }
 }
 
 fn group_word(g: Option<u32>) -> u32
@@ -66,14 +58,13 @@ fn group_word(g: Option<u32>) -> u32
     g.unwrap_or(0)
 }
 
-// Where an apex and its two ends lie on the scan axis, its mobility, and the flag that tells whether there is one.
+// Where an apex and its two ends lie on the scan axis, and its mobility, if it has one.
 #[derive(Clone, Copy)]
 pub struct OnAxes {
     pub scan: u32,
     pub left: u32,
     pub right: u32,
-    pub mobility: f32,
-    pub flag: u32,
+    pub mobility: Option<f32>,
 }
 
 fn on_axes<M: Column<f32>, S: Column<u32>>(mobility: M, axis: S, a: Measured) -> OnAxes
@@ -84,8 +75,7 @@ fn on_axes<M: Column<f32>, S: Column<u32>>(mobility: M, axis: S, a: Measured) ->
         scan: scan_at(axis, a.index),
         left: scan_at(axis, a.left as usize),
         right: scan_at(axis, a.right as usize),
-        mobility: mobility_at(mobility, a.index),
-        flag: mobility_flag(mobility),
+        mobility: mobility_of(mobility, a.index),
     }
 }
 
@@ -99,7 +89,7 @@ pub fn peak_on(
     a: Measured,
     id: PeakId,
 ) -> ImPeak1D
-    requires { (0 < a.index) × (a.index + 1 < length y.now) × (length z.now ≡ length y.now) × (length y.now ≤ exact_index) × (on.flag ≤ 2) }
+    requires { (0 < a.index) × (a.index + 1 < length y.now) × (length z.now ≡ length y.now) × (length y.now ≤ exact_index) }
     ensures { (mobility : List Float) (axis : List ℕ) → Inside y.now z.now axis a → on ≡ on_axes mobility axis a → result ≡ peak_of place bounds mobility axis y.now z.now a.index id }
 {
     let i = a.index;
@@ -113,7 +103,7 @@ pub fn peak_on(
         rt_hi: bounds.rt_hi,
         frame_id_lo: bounds.frame_id_lo,
         frame_id_hi: bounds.frame_id_hi,
-        flags: group_flag(group) + on.flag,
+        flags: flag_of(group, ImPeak1D::HAS_GROUP) + flag_of(on.mobility, ImPeak1D::HAS_MOBILITY),
         window_group: group_word(group),
         scan: i as u32,
         left: a.left,
@@ -122,7 +112,7 @@ pub fn peak_on(
         left_abs: on.left,
         right_abs: on.right,
         scan_sigma: 0.0,
-        mobility: on.mobility,
+        mobility: on.mobility.unwrap_or(0.0),
         apex_smoothed: y[i],
         apex_raw: z[i],
         prominence: a.prominence,
@@ -157,8 +147,8 @@ impl<'a, M: Column<f32>, S: Column<u32>> Row<'a, M, S> {
         peak_on(self.y, self.z, self.place, self.bounds, on, a, id)
     }
 
-    // Writes the records of the n apexes that stand in `found` to the front of `out`, the oldest first. An apex is some words of `found`,
-    // which is scratch and longer than they are, and is read at its place.
+    // Writes the records of the n apexes that stand in `found` to the front of `out`, the oldest first. By place: j is the place of the
+    // apex in `found`, that of its record in `out`, and how far its identity lies behind the first.
     pub fn put_peaks<W: Written>(
         &self,
         found: &[u32],
@@ -203,27 +193,19 @@ pub fn list_peaks(
 // The same with scratch of its own, for a row of at most N samples. It is no part of its callers, so that each has the stack of one size
 // alone. There is no heap, so the lists stand in the frame of this function.
 #[inline(never)]
-fn list_in<const N: usize, const B: usize, const F: usize>(
+fn list_in<const N: usize, const B: usize>(
     row: &WordRow<'_>,
     p: ImDetectParams,
     first: PeakId,
     out: &mut [u32],
 ) -> usize
     requires row { Writable row.now.y.now row.now.z.now row.now.axis.now first (length out.old) × Numbers p row.now.y.now row.now.z.now × (length row.now.y.now ≤ N) }
-    requires sizes { Sizes N B F }
+    requires sizes { Sizes N B }
     ensures count { result ≡ length (kept p row.now.y.now row.now.z.now) }
     ensures front { out.new ≡ row_words row.now.place row.now.bounds row.now.mobility.now row.now.axis.now row.now.y.now row.now.z.now first (kept p row.now.y.now row.now.z.now) ++ drop (result * size) out.old }
 {
-    let mut turns = [0u32; N];
-    let mut bases = [0u32; B];
-    let mut found = [0u32; F];
-    let mut scratch = Scratch {
-        samples: N,
-        turns: &mut turns,
-        bases: &mut bases,
-        found: &mut found,
-    };
-    list_peaks(row, p, first, &mut scratch, out)
+    let mut lists = Arrays::<N, B>::new();
+    list_peaks(row, p, first, &mut lists.lend(N), out)
 }
 
 // The same for any row of at most 16,384 samples: one that does not reach the floor has no peaks.
@@ -241,7 +223,7 @@ pub fn find_im_peaks_row(
         return 0;
     }
     if row.y.len() <= 1024 {
-        return list_in::<1024, 800, 4096>(row, p, first, out);
+        return list_in::<1024, 800>(row, p, first, out);
     }
-    list_in::<16384, 8480, 65536>(row, p, first, out)
+    list_in::<16384, 8480>(row, p, first, out)
 }

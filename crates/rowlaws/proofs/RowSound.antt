@@ -1,13 +1,13 @@
 -- Each part of number 9, for the record of a sample with a neighbour on either side, in a row that no number refuses.
 use mathlib.Core.Path.{◌≡◌, refl, sym, ap, ◌∙◌, subst}
 use mathlib.Core.Bool.{Bool, true, false, not, ◌||◌}
-use mathlib.Core.List.{List, ◌++◌}
+use mathlib.Core.List.{List, [], ◌∷◌, ◌++◌}
 use Prim.Native.Nat.{ℕ, zero, suc, ◌+◌, ◌-◌, ◌*◌, ◌/◌, ◌%◌, ◌^◌, ◌≤◌, ◌<◌}
 use native.Mathlib.Nat.{le_trans, le_of_eq, mul-le-mul_right}
 use native.Mathlib.Omega.{arith}
 use borrow.Author.Tests.{not-false, ltb-true, ltb-false, leb-true, le-leb, eqb-true, ne_eqb}
 use lib.Dec.{leb, ltb, eqb, lit<, lit≤}
-use lib.ListN.{length, drop}
+use lib.ListN.{length, drop, get_or, get_or-eq_default}
 use lib.Ieee.{Float, nan, le, of_bits, to_bits}
 use Rattle.limits.specs.Limits.{max_reading, max_height, max_area, max_mobility, max_place, max_tof_bound, max_scan, max_width, last_sample, last_row, max_samples}
 use Rattle.numeric.specs.Arith.{𝟎, index_f, at}
@@ -34,7 +34,7 @@ use Rattle.row.specs.Row.{scan_at, subscan, mobility_at, mobility_flag, group_fl
 use Rattle.row.specs.RowNumber.{same_lengths, sound_readings, sound_values, sound_axis, row_checks, row_number}
 use Rattle.row.proofs.RowNumberLaws.{none-for}
 use Rattle.std.proofs.lemmas.List.{get_or_default}
-use Rattle.row.proofs.Laws.{mobility-in, mobility-out, mobility-flag-le, group-flag-le}
+use Rattle.std.specs.Prelude.{Option, None, Some}
 use Rattle.rounding.specs.Rounding.{floor_f, ceil_f}
 use Rattle.rowlaws.specs.RowRecords.{nth}
 use Rattle.rowlaws.specs.RowSound.{Accepted, PeaksSound, ListSound}
@@ -98,6 +98,24 @@ mag-scans = refl
 zero-modest : modest 𝟎 ≡ true
 unfolding in_range of_bits to_bits
 zero-modest = refl
+
+-- ---- a mobility, and the flags
+
+mobility-in : (t : List Float) (i : ℕ) → i < length t → get_or t i 𝟎 ≡ mobility_at t i
+mobility-in [] i h = absurd (omega arith)
+mobility-in (m ∷ ms) i h = refl
+
+mobility-out : (t : List Float) (i : ℕ) → length t ≤ i → 𝟎 ≡ mobility_at t i
+mobility-out [] i h = refl
+mobility-out (m ∷ ms) i h = sym (get_or-eq_default (m ∷ ms) 𝟎 h)
+
+mobility-flag-le : (t : List Float) → mobility_flag t ≤ 2
+mobility-flag-le [] = omega arith
+mobility-flag-le (m ∷ ms) = omega arith
+
+group-flag-le : (g : Option ℕ) → group_flag g ≤ 1
+group-flag-le None = omega arith
+group-flag-le (Some w) = omega arith
 
 -- ---- the parts of number 9
 module _ (y z : List Float) (r : RowPlace) (f : FrameBounds) (mobility : List Float) (p : ImDetectParams) (axis : List ℕ) (first room : ℕ)

@@ -5,8 +5,8 @@ use mathlib.Core.List.{List, [], ◌∷◌}
 use Prim.Native.Nat.{ℕ, zero, suc, ◌-◌, ◌*◌, ◌≤◌, ◌<◌, min, zero-le}
 use native.Mathlib.Nat.{sub-le, le_trans, le_of_eq, mul-le-mul_right}
 use native.Mathlib.Omega.{arith}
-use borrow.Author.Tests.{ltb-true, leb-true, le-leb}
-use lib.Dec.{leb, ltb}
+use borrow.Author.Tests.{ltb-true, le-leb}
+use lib.Dec.{ltb}
 use lib.ListN.{length, get_or}
 use lib.Ieee.{Float, le}
 use Rattle.numeric.specs.Arith.{◌⊖◌, 𝟎, index_f}
@@ -21,6 +21,7 @@ use Rattle.row.specs.Row.{scan_at}
 use Rattle.rowlaws.proofs.Whole.{num-index, mag-index, Between, floor-between, ceil-between, round-between}
 use Rattle.rowlaws.proofs.Heights.{higher}
 use Rattle.rowlaws.proofs.Crossings.{Place}
+use Rattle.params.proofs.Laws.{up-to-at}
 
 -- ---- samples
 pub index-le : (j k : ℕ) → j ≤ k → k ≤ 16777216 → le (index_f j) (index_f k) ≡ true
@@ -58,12 +59,6 @@ module _ (n i : ℕ) (inside : i < n) (short : n ≤ 16384) (lx rx : Float) (L :
       le_trans (le_of_eq (ap cast_f b.is ∙ cast-index b.g (omega arith))) u
 
 -- ---- scans
-up_to : (limit : ℕ) (l : List ℕ) (k : ℕ) → all_up_to limit l ≡ true → get_or l k 0 ≤ limit
-unfolding all_up_to
-up_to limit [] k h = zero-le
-up_to limit (s ∷ ss) zero h = leb-true s limit (both (leb s limit) h).0
-up_to limit (s ∷ ss) (suc k) h = up_to limit ss k (both (leb s limit) h).1
-
 rises : (s : ℕ) (ts : List ℕ) → rising_from s ts ≡ true → (j k : ℕ) → j ≤ k → k ≤ length ts → get_or (s ∷ ts) j 0 ≤ get_or (s ∷ ts) k 0
 unfolding rising_from
 rises s ts h zero zero a b = le_of_eq refl
@@ -76,7 +71,7 @@ rises s (t ∷ ts) h zero (suc k) a b =
 rises s (t ∷ ts) h (suc j) (suc k) a b = rises t ts (both (ltb s t) h).1 j k (omega arith) (omega arith)
 
 pub scan-at-most : (limit : ℕ) (axis : List ℕ) (k : ℕ) → all_up_to limit axis ≡ true → scan_at axis k ≤ limit
-scan-at-most limit axis k h = up_to limit axis (min k (length axis - 1)) h
+scan-at-most limit axis k h = up-to-at limit axis (min k (length axis - 1)) h
 
 pub scans-rise : (axis : List ℕ) → rising axis ≡ true → (j k : ℕ) → j ≤ k → scan_at axis j ≤ scan_at axis k
 unfolding rising

@@ -1,35 +1,20 @@
 -- Results with their sign turned, and bounds on the size of results of either sign.
 use mathlib.Core.Path.{◌≡◌, refl, sym, ap, ap₂, ◌∙◌, subst}
 use mathlib.Core.Bool.{Bool, true, false, not, cond, ◌&&◌, beq}
-use Prim.Native.Nat.{ℕ, zero, suc, ◌+◌, ◌-◌, ◌*◌, ◌^◌, ◌≤◌, ◌<◌}
+use Prim.Native.Nat.{ℕ, ◌+◌, ◌-◌, ◌*◌, ◌^◌, ◌≤◌, ◌<◌}
 use native.Mathlib.Nat.{le_trans, le_of_eq, mul_comm, mul_assoc, mul_right_comm, mul-le-mul_right, mul-pos, add-mul}
 use native.Mathlib.Omega.{arith}
 use borrow.Author.Tests.{ltb-true, lt-ltb, le-ltb}
 use lib.Dec.{ltb}
 use lib.IntN.{ℤ}
-use lib.Ieee.{Float, nan, inf, fin, binary32, up, down, unlike, lt, neg, odd, units, round, sum, add, sub, mul, div}
-use lib.Ieee.Fits.{down_pos, round_is}
+use lib.Ieee.{Float, nan, inf, fin, binary32, up, down, unlike, lt, neg, round, sum, add, sub, mul, div}
+use lib.Ieee.Fits.{down_pos}
 use Rattle.numeric.specs.Arith.{◌⊕◌, ◌⊖◌, ◌⊗◌, ◌⊘◌}
 use Rattle.numeric.specs.Numeric.{abs_f}
 use Rattle.numeric.proofs.Bounds.{one, mag, Num, Rep, AtMost, value, lt-mag, round-at-most}
+use Rattle.rounding.proofs.Laws.{neg-round}
 
 -- ---- a rounded fraction with its sign turned
-neg-odd : (d : ℕ) (s : Bool) (q k l : ℕ) → neg (odd d s q k l) ≡ odd d (not s) q k l
-unfolding neg odd
-neg-odd d s zero k l = refl
-neg-odd d s (suc q) k l = refl
-
-neg-units : (s : Bool) (q k : ℕ) → neg (units binary32 s q k) ≡ units binary32 (not s) q k
-unfolding neg units
-neg-units s q k = go (ltb (q * 2 ^ k) (2 ^ 277))
-  where
-    go : (b : Bool) → neg (cond b (odd 25 s q k 149) (inf s)) ≡ cond b (odd 25 (not s) q k 149) (inf (not s))
-    go true = neg-odd 25 s q k 149
-    go false = refl
-
-neg-round : (s : Bool) (a d : ℕ) → neg (round binary32 s a d) ≡ round binary32 (not s) a d
-neg-round s a d = ap neg (round_is binary32 s a d) ∙ neg-units s _ _ ∙ sym (round_is binary32 (not s) a d)
-
 -- ---- differences, products and quotients
 sum-turned : (a b c d : ℕ) → a < b → c ≡ d → sum binary32 false a true b c ≡ neg (sum binary32 false b true a d)
 unfolding sum

@@ -7,8 +7,8 @@ use native.Mathlib.Omega.{arith}
 use borrow.Author.Tests.{ltb-false, leb-true, le-leb}
 use lib.Dec.{T, ltb, lit<}
 use lib.IntN.{ℤ}
-use lib.Ieee.{Float, nan, inf, fin, binary32, up, down, lt, is_nan, of_bits, to_bits, fits, odd, units, round, mul, div}
-use lib.Ieee.Fits.{down_pos, round_is}
+use lib.Ieee.{Float, nan, inf, fin, binary32, up, down, lt, is_nan, of_bits, to_bits, fits, mul, div}
+use lib.Ieee.Fits.{down_pos}
 use Rattle.numeric.specs.Arith.{◌⊕◌, ◌⊖◌, ◌⊗◌, ◌⊘◌, 𝟎, ½, 𝟐}
 use Rattle.numeric.specs.Numeric.{abs_f, clamp_f, quad_f, in_range}
 use Rattle.refusal.proofs.Bools.{clash}
@@ -16,31 +16,16 @@ use Rattle.numeric.proofs.Bounds.{one, mag, Num, Rep, AtMost, value, lt-mag, lim
 use Rattle.record.specs.Record.{offset}
 use Rattle.rowlaws.proofs.Signs.{abs-num, add-size, sub-size}
 use Rattle.rowlaws.proofs.Heights.{num-half}
+use Rattle.numeric.proofs.Patterns.{round_number, minus_plus, zero_number}
 
 -- ---- a rounded fraction is a number, and so are products and quotients of numbers, but for 0 / 0
-odd_number : (d : ℕ) (s : Bool) (q k l : ℕ) → is_nan (odd d s q k l) ≡ false
-unfolding odd is_nan
-odd_number d s zero k l = refl
-odd_number d s (suc q) k l = refl
-
-units_number : (s : Bool) (q k : ℕ) → is_nan (units binary32 s q k) ≡ false
-unfolding units is_nan
-units_number s q k = go (ltb (q * 2 ^ k) (2 ^ 277))
-  where
-    go : (b : Bool) → is_nan (cond b (odd 25 s q k 149) (inf s)) ≡ false
-    go true = odd_number 25 s q k 149
-    go false = refl
-
-round_number : (s : Bool) (a c : ℕ) → is_nan (round binary32 s a c) ≡ false
-round_number s a c = ap is_nan (round_is binary32 s a c) ∙ units_number s _ _
-
 mul-number : (x y : Float) → Num x → Num (abs_f y) → is_nan (x ⊗ y) ≡ false
 unfolding mul abs_f
 mul-number nan y p q = absurd p.clear
 mul-number (inf s) y p q = absurd p.clear
 mul-number (fin s m e) nan p q = absurd q.clear
 mul-number (fin s m e) (inf t) p q = absurd q.clear
-mul-number (fin s m e) (fin t n d) p q = round_number _ (m * up e * (n * up d)) (down e * down d)
+mul-number (fin s m e) (fin t n d) p q = round_number binary32 _ (m * up e * (n * up d)) (down e * down d)
 
 not-zero : (d : ℤ) → Num (fin false 0 d) → 0 < mag (fin false 0 d) → ⊥
 not-zero d p h =
@@ -57,7 +42,7 @@ div-number (inf s) (fin t k d) n q h = refl
 div-number (fin s m e) nan n q h = absurd q.clear
 div-number (fin s m e) (inf t) n q h = absurd q.clear
 div-number (fin s m e) (fin t zero d) n q h = absurd (not-zero d q h)
-div-number (fin s m e) (fin t (suc k) d) n q h = rw (lib.Dec.eqb-suc-zero k) (round_number _ (m * up e * down d) (suc k * up d * down e))
+div-number (fin s m e) (fin t (suc k) d) n q h = rw (lib.Dec.eqb-suc-zero k) (round_number binary32 _ (m * up e * down d) (suc k * up d * down e))
 
 -- ---- the parabola, through readings from 0 to top units
 abbrev tiny : Float
@@ -76,10 +61,6 @@ num-two = limit-num 0x4000_0000 (lit< tt)
 mag-two : mag 𝟐 ≡ 2 * one
 unfolding mag one of_bits
 mag-two = refl
-
-zero_number : is_nan 𝟎 ≡ false
-unfolding of_bits is_nan
-zero_number = refl
 
 module _ (top : ℕ) (reps : (k : ℕ) → k < 16 → Rep (k * top)) (a b c : Float) (A : AtMost a top) (B : AtMost b top) (C : AtMost c top) where
   size_of : (x : Float) → Num x → Num (abs_f x)
@@ -124,13 +105,6 @@ high_end = refl
 abbrev minus_half : Float
 minus_half = of_bits binary32 0xbf00_0000
 
-minus-bits : (m : ℕ) (e : ℤ) → to_bits binary32 (fin true m e) ≡ 0x8000_0000 + to_bits binary32 (fin false m e)
-unfolding to_bits
-minus-bits m e = joined _ _
-  where
-    joined : (a b : ℕ) → 0x8000_0000 + a + b ≡ 0x8000_0000 + (0 + a + b)
-    joined a b = omega arith
-
 turned-fits : (m : ℕ) (e : ℤ) → T (fits binary32 (fin true m e)) → T (fits binary32 (fin false m e))
 unfolding fits
 turned-fits zero e h = h
@@ -154,7 +128,7 @@ between (inf true) f n g h = clash true refl g
 between (inf false) f n g h = clash true refl h
 between (fin true m e) f n g h =
     let l = to-half m e (turned-fits m e f) (sym (lt-turned m e) ∙ g) in
-    let b = minus-bits m e in le-leb (to_bits binary32 (fin true m e) % 0x8000_0000) 0x3f00_0000 (omega arith)
+    let b = minus_plus m e in le-leb (to_bits binary32 (fin true m e) % 0x8000_0000) 0x3f00_0000 (omega arith)
 between (fin false m e) f n g h = let l = to-half m e f h in le-leb (to_bits binary32 (fin false m e) % 0x8000_0000) 0x3f00_0000 (omega arith)
 
 pub clamp-offset : (x : Float) → T (fits binary32 x) → is_nan x ≡ false → offset (clamp_f x minus_half ½) ≡ true

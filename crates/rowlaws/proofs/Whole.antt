@@ -9,18 +9,14 @@ use lib.IntN.{ℤ, pos}
 use lib.Ieee.{Float, nan, inf, fin, binary32, up, down, of_int, to_unsigned}
 use lib.Ieee.Fits.{down_pos, of_int-fits}
 use lib.Ieee.Exact.{HasValue}
-use lib.Ieee.Back.{round_whole}
 use Rattle.numeric.specs.Arith.{index_f}
 use Rattle.numeric.specs.Numeric.{cast_f}
 use Rattle.refusal.proofs.Bools.{clash}
 use Rattle.numeric.proofs.Bounds.{one, mag, plus, Num, one-pos, value, mag_is}
 use Rattle.rounding.specs.Rounding.{floor_f, ceil_f, round_f}
+use Rattle.rounding.proofs.Guess.{index-value}
 
 -- ---- whole numbers as floats
-index-value : (n : ℕ) → n ≤ 16777216 → HasValue (index_f n) false n 1
-unfolding of_int
-index-value n h = round_whole binary32 false n h
-
 in-units : (x : Float) (n : ℕ) → HasValue x false n 1 → HasValue x false (n * one) one
 in-units nan n h = h
 in-units (inf s) n h = h

@@ -18,13 +18,13 @@ use Rattle.rowsearch.specs.Suppression.{keep, keep_all}
 use Rattle.rowsearch.specs.Account.{◌∈◌, All, Ascending, Descending, NoNan, dist, Leads, listed, step, GivesWay, Accounted, KeptQualify, KeptDescend, KeptApart, AllAccounted, AllKept, FewKept}
 
 -- ---- lists
-all_none : (P : ℕ → Type 0) → All P []
+pub all_none : (P : ℕ → Type 0) → All P []
 all_none P i m = absurd (Memᴰ.not-nil m)
 
-all_cons : (P : ℕ → Type 0) (i : ℕ) (l : List ℕ) → P i → All P l → All P (i ∷ l)
+pub all_cons : (P : ℕ → Type 0) (i : ℕ) (l : List ℕ) → P i → All P l → All P (i ∷ l)
 all_cons P i l h t j m = ⊎_elim (λ (e : j ≡ i). rw e h) (t j) (Memᴰ.cases_cons m)
 
-all_tail : (P : ℕ → Type 0) (i : ℕ) (l : List ℕ) → All P (i ∷ l) → All P l
+pub all_tail : (P : ℕ → Type 0) (i : ℕ) (l : List ℕ) → All P (i ∷ l) → All P l
 all_tail P i l f j m = f j (there m)
 
 -- two ascending lists join to one if all of the first come before all of the second

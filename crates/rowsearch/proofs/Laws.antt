@@ -10,8 +10,8 @@ use borrow.Rule.Slice.PartMut.{put_mid}
 use borrow.Author.Tests.{ltb-true, ltb-false, lt-ltb, le-ltb}
 use lib.Dec.{ltb, leb, lit<}
 use lib.ListN.{length, get_or, take, drop, length-append, length-drop, drop_of_length-le, get_or-append}
-use lib.Seq.{drop-cons, length-take-le, get_or-append-add, get_or-take, drop_at, take_all}
-use lib.Ieee.{Float, nan, binary32, lt, le, is_nan, of_bits}
+use lib.Seq.{length-take-le, get_or-append-add, get_or-take, drop_at, take_all}
+use lib.Ieee.{Float, binary32, lt, le, is_nan}
 use lib.Ieee.Bits.{of_bits-to_bits}
 use Rattle.numeric.specs.Arith.{at, 𝟎, ½, ◌⊕◌, ◌⊗◌, ◌⊖◌}
 use Rattle.refusal.proofs.Bools.{clash}
@@ -30,6 +30,7 @@ use Rattle.rowsearch.specs.Qualifying.{highest_reading, reaches, left_x, right_x
 use Rattle.rowsearch.specs.Found.{measured_of, found_size, measured_words, measured_from, measured_at, with_measured, Fits, FoundAt, Found, oldest, keep_if, Newest, Keeps, kept_of, after}
 use Rattle.rowsearch.specs.declared.inner.Measured.{Measured}
 use Rattle.rowsearch.specs.declared.inner.Keeping.{Keeping}
+use Rattle.std.proofs.Math.Bool.{or-false}
 
 -- ---- the highest reading
 
@@ -37,14 +38,6 @@ use Rattle.rowsearch.specs.declared.inner.Keeping.{Keeping}
 unfoldable pub some : Float → List Float → Bool
 some floor [] = false
 some floor (v ∷ vs) = le floor v || some floor vs
-
-or-false : (a : Bool) → (a || false) ≡ a
-or-false true = refl
-or-false false = refl
-
-pub or_assoc : (a b c : Bool) → ((a || b) || c) ≡ (a || (b || c))
-or_assoc true b c = refl
-or_assoc false b c = refl
 
 -- a higher reading v after m
 higher : (floor m v : Float) (s : Bool) → lt m v ≡ true → (not (lt v floor) || s) ≡ (not (lt m floor) || (le floor v || s))
@@ -76,18 +69,6 @@ highest-reaches floor m (v ∷ vs) n = go (lt m v) refl (highest-reaches floor v
         → not (lt (highest_reading (cond b v m) vs) floor) ≡ (not (lt m floor) || (le floor v || some floor vs))
     go true e f g = f (lt-no-nan m v e).1 ∙ higher floor m v (some floor vs) e
     go false e f g = g ∙ no-higher floor m v (some floor vs) e
-
-pub zero-no-nan : is_nan 𝟎 ≡ false
-unfolding of_bits is_nan
-zero-no-nan = refl
-
-pub some-step : (floor : Float) (z : List Float) (i : ℕ) → i < length z → some floor (drop i z) ≡ (le floor (at z i) || some floor (drop (i + 1) z))
-unfolding some
-some-step floor z i h = rw (add-one, drop-cons z i nan)
-
-pub some_end : (floor : Float) (z : List Float) (i : ℕ) (a : Bool) → length z ≤ i → (a || some floor (drop i z)) ≡ a
-unfolding some
-some_end floor z i a h = rw (drop_of_length-le z h) (or-false a)
 
 -- ---- what is measured, in a list
 -- it depends on its own words alone
@@ -254,14 +235,6 @@ put-kept {y} {z} {l} {i} {s} p place depth m e low high room g q higher at_place
         let e : place ≡ s.count - 1 = rw (close true h) at at_place in rw (q, h, g) (new older (let c = k.count in omega arith) k.stand.1)
     go false c h g = rw (q, h) (new (j ∷ older) (rw (close false h) at at_place ∙ k.count) k.stand)
 
--- who is near some kept one is near one
-pub counted : (n : Bool) (a : ℕ) (b : Bool) → n ≡ (ltb 0 a && b) → n ≡ true → 0 < a
-counted n a b e h = go (ltb 0 a) refl (sym e ∙ h)
-  where
-    go : (t : Bool) → ltb 0 a ≡ t → (t && b) ≡ true → 0 < a
-    go true d k = ltb-true 0 a d
-    go false d k = clash false k refl
-
 -- the height that is looked at is the half height
 module _ (p : ImDetectParams) (y z : List Float) (i : ℕ) (base : Float) (b : base ≡ baseline y i) where
   pub wide_is : (r v : Bool) → r ≡ leb p.min_width_scans (span_of y z (base ⊕ ½ ⊗ (at y i ⊖ base)) i).width → r ≡ v → leb p.min_width_scans (width y i) ≡ v
@@ -382,3 +355,8 @@ module _ (l p : List ℕ) (m : ℕ) (fits : m ≤ length l) where
       let all : put_mid m (length l - m) l p ≡ take m l ++ p = rw (none, append-nil) in
       let n : length (take m l ++ p) - m ≡ length p = rw (length-append, length-take-le m l fits) (omega arith) in
       rw (all, n, drop_at (take m l) p m (length-take-le m l fits)) (take_all (length p) p (omega arith))
+
+-- the index that is measured is that of the apex
+pub measured-index : (y z : List Float) (i : ℕ) → (measured_of y z i).index ≡ i
+unfolding measured_of
+measured-index y z i = refl

@@ -1,5 +1,5 @@
 -- What holds of the qualifying and of the kept apexes of a row: what `Account` asks of qualifying apexes, and how many there can be.
-use mathlib.Core.Path.{◌≡◌, refl, ap, ◌∙◌}
+use mathlib.Core.Path.{◌≡◌, refl, ap}
 use mathlib.Core.Bool.{Bool, true, false, cond, ◌&&◌}
 use mathlib.Core.List.Memᴰ
 use mathlib.Core.List.{List, [], ◌∷◌, ◌++◌}
@@ -17,12 +17,12 @@ use Rattle.refusal.proofs.Bools.{clash}
 use Rattle.numeric.proofs.Order.{lt-no-nan}
 use Rattle.apex.specs.Apex.{is_candidate, candidates_to, candidates}
 use Rattle.apex.specs.Candidates.{CandidateAt}
-use Rattle.apex.proofs.Candidates.{one_more, none_more, count-to}
+use Rattle.apex.proofs.Candidates.{count-to}
 use Rattle.params.specs.Params.{most_peaks}
 use Rattle.params.specs.declared.ImDetectParams.{ImDetectParams}
 use Rattle.rowsearch.specs.Suppression.{keep, keep_all}
 use Rattle.rowsearch.specs.Account.{◌∈◌, All, Ascending}
-use Rattle.rowsearch.proofs.Account.{ascending-append, keep_all-append, kept-length}
+use Rattle.rowsearch.proofs.Account.{ascending-append, kept-length}
 use Rattle.rowsearch.specs.Qualifying.{highest_reading, reaches, qualifies, that_qualify, qualifying, kept}
 use Rattle.rowsearch.specs.QualifyingLaws.{OnlyQualifying, AllQualifying, QualifyingAscend, QualifyingNumbers, KeptCount}
 
@@ -161,20 +161,6 @@ keep_one p y ks i = go (qualifies p y i)
     go false = refl
 
 -- one sample more
-pub kept_step : (p : ImDetectParams) (y : List Float) (k : ℕ)
-    → kept_to p y (suc k) ≡ cond (is_candidate y (suc k)) (cond (qualifies p y (suc k)) (keep p.min_distance_scans y (kept_to p y k) (suc k)) (kept_to p y k)) (kept_to p y k)
-kept_step p y k = go (is_candidate y (suc k)) refl
-  where
-    d : ℕ
-    d = p.min_distance_scans
-
-    go : (b : Bool) → is_candidate y (suc k) ≡ b
-        → kept_to p y (suc k) ≡ cond b (cond (qualifies p y (suc k)) (keep d y (kept_to p y k) (suc k)) (kept_to p y k)) (kept_to p y k)
-    go true e =
-        ap (λ (l : List ℕ). keep_all d y [] (that_qualify p y l)) (one_more y k e) ∙ ap (keep_all d y []) (qualify-append p y (candidates_to y k) (suc k ∷ []))
-        ∙ keep_all-append d y [] (that_qualify p y (candidates_to y k)) (that_qualify p y (suc k ∷ [])) ∙ keep_one p y (kept_to p y k) (suc k)
-    go false e = ap (λ (l : List ℕ). keep_all d y [] (that_qualify p y l)) (none_more y k e)
-
 -- the row as a whole, whether or not its raw maximum reaches the floor
 pub kept_high : (p : ImDetectParams) (y z : List Float) → reaches p.min_prom (highest_reading 𝟎 z) ≡ true → kept p y z ≡ kept_to p y (length y - 2)
 unfolding kept qualifying

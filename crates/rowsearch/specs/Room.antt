@@ -9,9 +9,8 @@ pub record Room (n turns bases found : ℕ) : Type 0 where
   pub bases-long : n ≤ 2 * bases + 1
   pub found-long : 4 * n ≤ found + 4
 
--- Arrays of these lengths are room for rows of up to n samples, and small.
-pub record Sizes (n bases found : ℕ) : Type 0 where
-  pub room : Room n n bases found
+-- Arrays for turns and bases of these lengths are room for rows of up to n samples, and small.
+pub record Sizes (n bases : ℕ) : Type 0 where
+  pub bases-long : n ≤ 2 * bases + 1
   pub few : n ≤ max_samples
   pub few-bases : bases ≤ max_samples
-  pub few-found : found ≤ 4 * max_samples

@@ -43,11 +43,8 @@ pub struct Keeping {
 pub fn reaches_floor(z: &[f32], floor: f32) -> bool
     ensures { result ≡ reaches floor (highest_reading 𝟎 z.now) }
 {
-    let mut any = !(0.0 < floor);
-    for &reading in z {
-        any |= floor <= reading;
-    }
-    any
+    z.iter()
+        .fold(!(0.0 < floor), |any, &reading| any | (floor <= reading))
 }
 
 // ---- what is measured, as words

@@ -3,8 +3,8 @@ use mathlib.Core.Path.{◌≡◌, refl, ap}
 use mathlib.Core.List.{List}
 use Prim.Native.Nat.{ℕ}
 use lib.ListN.{length}
-use lib.Ieee.{Float, binary32, neg, of_bits}
-use Rattle.numeric.specs.Arith.{◌⊕◌, ½, index_f, at}
+use lib.Ieee.{Float}
+use Rattle.numeric.specs.Arith.{◌⊕◌, index_f, at}
 use Rattle.rttime.specs.Time.{time_at}
 use Rattle.spans.specs.Span.{span_of}
 use Rattle.rowsearch.specs.Qualifying.{left_x, right_x, width}
@@ -13,10 +13,6 @@ use Rattle.rowsearch.specs.declared.inner.Measured.{Measured}
 use Rattle.rtapex.specs.declared.inner.Seconds.{Seconds}
 use Rattle.rtapex.specs.InTime.{subframe, apex_time, seconds_of, apex_area, local_peak_of}
 use Rattle.rtapex.specs.Steps.{Inside}
-
-pub minus_half : neg ½ ≡ of_bits binary32 0xbf00_0000
-unfolding neg of_bits
-minus_half = refl
 
 -- what is measured of an apex: its crossings and its area
 pub left_is : (y z : List Float) (i : ℕ) → (measured_of y z i).left_x ≡ left_x y i
@@ -59,3 +55,8 @@ local-is y z t a sub sec s inside e q f =
     let ew = ap (λ (m : Measured). m.width) i in
     let ea = ap (λ (m : Measured). m.area) i in
     rw (q, e, f, ep, el, er, ew, ea)
+
+-- the index of a local peak is that of its apex
+pub local-index : (y x t : List Float) (i : ℕ) → (local_peak_of y x t i).apex.rt_idx ≡ i
+unfolding local_peak_of
+local-index y x t i = refl

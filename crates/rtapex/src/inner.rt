@@ -43,7 +43,7 @@ pub fn seconds_of(t: &[f32], n: usize, left_x: f32, right_x: f32) -> Seconds
 
 impl<'a> Trace<'a> {
     // How far the apex at i lies from its frame. The same two lines as row's `subscan_of`: each is the definition of its own level.
-    #[tactic(auto, unfolding(crate::specs::InTime::subframe), using(crate::proofs::Laws::minus_half))]
+    #[tactic(auto, unfolding(crate::specs::InTime::subframe), using(numeric::proofs::Patterns::minus_half))]
     pub fn subframe(self, i: usize) -> f32
         requires { (0 < i) × (i + 1 < length self.smoothed.now) }
         ensures { result ≡ subframe self.entry.smoothed.now i }

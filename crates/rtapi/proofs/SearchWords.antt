@@ -1,11 +1,10 @@
 -- The word of a trace's retention peaks.
 use mathlib.Core.Path.{◌≡◌, refl, ap, ◌∙◌, subst}
-use mathlib.Core.List.{List, [], ◌∷◌, ◌++◌}
+use mathlib.Core.List.{List, ◌∷◌, ◌++◌}
 use Prim.Native.Nat.{ℕ, ◌*◌, ◌+◌, ◌-◌, ◌≤◌, ◌<◌, ◌^◌}
 use native.Mathlib.Omega.{arith}
 use lib.ListN.{length, drop, length-append, length-drop}
 use Rattle.rtrecord.specs.RtRecord.{local_size}
-use Rattle.rtrecord.specs.declared.RtLocalPeak.{RtLocalPeak}
 use Rattle.std.specs.Prelude.{Result}
 use Rattle.refusal.specs.Numbered.{says}
 use Rattle.refusal.specs.declared.Refusal.{Refusal}
@@ -15,6 +14,7 @@ use Rattle.retention.specs.Trace as retention
 use Rattle.entryword.specs.Word.{word_of, itself}
 use Rattle.entryword.proofs.Words.{below, first_below, word_fits, word-told}
 use Rattle.rtapi.specs.Search.{Answered, SearchTold}
+use Rattle.retention.proofs.Laws.{peak-words-length}
 
 search-small : (c : RtCall) (out scratch : List ℕ) → number_for c out scratch < 64
 unfolding rt_number below
@@ -23,19 +23,13 @@ search-small c out scratch = first_below 64 (rt_checks c (length out) (length sc
 pub search-told : SearchTold
 search-told c out scratch = word-told itself (number_for c out scratch) (length (peaks_of c)) (search-small c out scratch)
 
--- a list has no more peaks than fit into it
-words_long : (ps : List RtLocalPeak) → length (peak_words ps) ≡ length ps * local_size
-unfolding peak_words
-words_long [] = refl
-words_long (p ∷ ps) = let r = words_long ps in simp length-append (omega (arith, r))
-
 module _ {c : RtCall} {out₀ out scratch₀ scratch : List ℕ} {r : Result ℕ Refusal} (a : retention.Answered c out₀ out scratch₀ scratch r) where
   few : number_for c out₀ scratch₀ ≡ 0 → length out ≡ length out₀ → length (peaks_of c) * local_size ≤ length out₀
   few z kept =
       let ps = peaks_of c in
       let e : out ≡ peak_words ps ++ drop (length ps * local_size) out₀ = rw z at a.words in
       let l : length out ≡ length ps * local_size + (length out₀ - length ps * local_size) =
-      ap length e ∙ (simp (length-append, length-drop, words_long ps)) in
+      ap length e ∙ (simp (length-append, length-drop, peak-words-length ps)) in
       omega (arith, l, kept)
 
   pub search-fits : length out ≡ length out₀ → length out₀ < 2 ^ 61 → word_of itself (says r) < 2 ^ 64

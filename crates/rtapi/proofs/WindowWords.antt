@@ -90,7 +90,7 @@ module _ (n : ℕ) (w : Option RtWindow) (was : List ℕ) where
   all = number_in n (length was)
 
   -- what is answered and left where there is a window, and where there is none
-  pub put-some : (x : RtWindow) (is : List ℕ) → 0 ≡ n → Some x ≡ w → 3 ≤ length was → is ≡ (x.lo ∷ x.hi ∷ to_bits binary32 x.sigma ∷ []) ++ drop 3 was
+  pub put-some : (x : RtWindow) (is : List ℕ) → 0 ≡ n → Some x ≡ w → 3 ≤ length was → is ≡ (x.frames.lo ∷ x.frames.hi ∷ to_bits binary32 x.sigma ∷ []) ++ drop 3 was
       → (says (Ok 1) ≡ answer_by all (window_count w)) × (is ≡ cond (eqb all 0) (with_window was w) was)
   unfolding window_words window_count
   put-some x is z e h g = rw (← z, ← e, le-ltb (length was) 3 h) (refl, g)
@@ -123,7 +123,7 @@ word-small peak ids times e room =
 -- ---- places
 
 unfoldable last_of : Option RtWindow → ℕ
-last_of (Some w) = max w.lo w.hi
+last_of (Some w) = max w.frames.lo w.frames.hi
 last_of None = 0
 
 module _ (peak ids : List ℕ) (times : List Float) (e : RtExpandParams) where
@@ -142,6 +142,6 @@ module _ (peak ids : List ℕ) (times : List Float) (e : RtExpandParams) where
           omega (arith, i.0, i.1, r.few)
       go None g = omega arith
 
-  pub places-few : (x : RtWindow) → window_number peak ids times e ≡ 0 → Some x ≡ window_of ids times e (peak_at peak 0) → (x.lo < 4294967296) × (x.hi < 4294967296)
+  pub places-few : (x : RtWindow) → window_number peak ids times e ≡ 0 → Some x ≡ window_of ids times e (peak_at peak 0) → (x.frames.lo < 4294967296) × (x.frames.hi < 4294967296)
   unfolding last_of
-  places-few x z h = let f : max x.lo x.hi < 4294967296 = subst (λ (w : Option RtWindow). last_of w < 4294967296) (sym h) (last-few z) in (omega (arith, f), omega (arith, f))
+  places-few x z h = let f : max x.frames.lo x.frames.hi < 4294967296 = subst (λ (w : Option RtWindow). last_of w < 4294967296) (sym h) (last-few z) in (omega (arith, f), omega (arith, f))

@@ -13,7 +13,7 @@ use Rattle.entryword.specs.Word.{word_of, Told}
 
 -- the words of a window, and the count of windows
 unfoldable pub window_words : Option RtWindow → List ℕ
-window_words (Some w) = w.lo ∷ w.hi ∷ to_bits binary32 w.sigma ∷ []
+window_words (Some w) = w.frames.lo ∷ w.frames.hi ∷ to_bits binary32 w.sigma ∷ []
 window_words None = []
 
 unfoldable pub window_count : Option RtWindow → ℕ

@@ -1,4 +1,4 @@
-// The retention peaks of a trace as a C function on numbers and lists.
+// The retention peaks of a trace as a C function on numbers and lists. Each list is an argument of its own.
 ghost use Rattle.retention.specs.Trace.{call_of};
 ghost use Rattle.rtgiven.specs.Given.{threshold_of};
 ghost use Rattle.rtapi.specs.Search.{Answered};

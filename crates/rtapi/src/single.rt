@@ -1,4 +1,4 @@
-// The fallback as a C function on numbers and lists.
+// The fallback as a C function on numbers and lists. Each list is an argument of its own.
 ghost use Rattle.rtapi.specs.Fallback.{Answered};
 
 // Puts the record of a trace's peak to the front of `out` and answers 64, or answers 0 where there is none, or a number, and then leaves

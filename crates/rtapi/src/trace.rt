@@ -6,14 +6,13 @@ ghost use Rattle.rtapi.specs.Noise.{pattern, noise_word};
 
 use refusal::Refusal;
 
-// The word of a noise, or of the number that refuses. No count, which entryword says as a word, has all patterns as an f32 has.
+// The word of a noise, whose bit pattern stands where a count stands elsewhere, or of the number that refuses.
+#[tactic(auto, unfolding(entryword::specs::Word::as_word))]
 fn word_of(answer: Result<f32, Refusal>) -> u64
     ensures { result ≡ word_of pattern (says answer) }
 {
-    match answer {
-        Ok(v) => (numeric::word_of(v) as u64) * 64,
-        Err(refusal) => refusal.number() as u64,
-    }
+    let pattern = answer.map(|v| numeric::word_of(v) as usize);
+    entryword::word_of(pattern)
 }
 
 // Answers 64 times the bit pattern of the noise, or a number.

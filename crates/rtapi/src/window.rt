@@ -1,4 +1,4 @@
-// The first call of expansion as a C function on numbers and lists.
+// The first call of expansion as a C function on numbers and lists. Each list is an argument of its own.
 ghost use Rattle.std.specs.Prelude.{◌≡◌, [], ◌∷◌, ◌++◌, ◌≤◌, length, drop};
 ghost use Rattle.std.specs.Float.{binary32};
 ghost use Rattle.std.specs.Float.Ieee.{to_bits};
@@ -40,7 +40,7 @@ fn put_window(
     }
     match window {
         Some(w) => {
-            put(out, w.lo as u32, w.hi as u32, w.sigma);
+            put(out, w.frames.lo as u32, w.frames.hi as u32, w.sigma);
             Ok(1)
         }
         None => Ok(0),

@@ -32,6 +32,7 @@ use Rattle.rtsearch.proofs.Orders.{index-strict, larger-strict, earlier-strict}
 use Rattle.rtsearch.proofs.Listed.{rt-no-nan, none-listed, low-none}
 use Rattle.retention.specs.Trace.{peak_words}
 use Rattle.rtlaws.specs.RtAccount.{Qualifies, QualifyingAre, NoneInFew, NoneBelow, no_lower, RtAccounted, AllRtAccounted, PeaksBear, WordsBear}
+use Rattle.rtapex.proofs.Laws.{local-index}
 
 -- ---- what qualifies
 
@@ -162,13 +163,9 @@ rt-account floor sep min_width y z t = all floor sep min_width y z t
 
 -- ---- records
 
-frame_is : (y z t : List Float) (i : ℕ) → (local_peak_of y z t i).apex.rt_idx ≡ i
-unfolding local_peak_of
-frame_is y z t i = refl
-
 frames : (y z t : List Float) (l : List ℕ) → map (λ (p : RtLocalPeak). p.apex.rt_idx) (map (local_peak_of y z t) l) ≡ l
 frames y z t [] = refl
-frames y z t (i ∷ l) = rw (frame_is y z t i) (ap (λ (k : List ℕ). i ∷ k) (frames y z t l))
+frames y z t (i ∷ l) = rw (local-index y z t i) (ap (λ (k : List ℕ). i ∷ k) (frames y z t l))
 
 pub peaks-bear : PeaksBear
 unfolding rt_peaks

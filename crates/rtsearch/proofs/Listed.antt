@@ -43,12 +43,10 @@ use Rattle.rtplaces.specs.Places.{index_at, area_at, wide, wide_at, height_word,
 use Rattle.rtsearch.specs.Steps.{Stands, AllStand, RtFound}
 use Rattle.rtsearch.proofs.Orders.{higher-strict, first-decides}
 use Rattle.rtplaces.proofs.Laws.{largest-same, front_below, chosen-places, shares-places, chosen-places-few, shares-few, some_below, some-few}
+use Rattle.std.proofs.lemmas.List.{map-append}
+use Rattle.rowsearch.proofs.Laws.{measured-index}
 
 -- ---- lists of places
-
-map_snoc : (f : ℕ → ℕ) (l : List ℕ) (p : ℕ) → map f (l ++ (p ∷ [])) ≡ map f l ++ (f p ∷ [])
-map_snoc f [] p = refl
-map_snoc f (x ∷ l) p = ap (λ (k : List ℕ). f x ∷ k) (map_snoc f l p)
 
 mem-map : (f : ℕ → ℕ) (l : List ℕ) (p : ℕ) → p ∈ l → f p ∈ map f l
 mem-map f [] p m = absurd (Memᴰ.not-nil m)
@@ -68,12 +66,8 @@ index_is : (found : List ℕ) (p : ℕ) → (measured_at found p).index ≡ inde
 unfolding measured_from
 index_is found p = rw add-zero
 
-of-index : (y z : List Float) (i : ℕ) → (measured_of y z i).index ≡ i
-unfolding measured_of
-of-index y z i = refl
-
 found-index : (y z : List Float) (found : List ℕ) (i p : ℕ) → FoundAt y z found i p → index_at found p ≡ i
-found-index y z found i p h = sym (index_is found p) ∙ ap (λ (m : Measured). m.index) h.is ∙ of-index y z i
+found-index y z found i p h = sym (index_is found p) ∙ ap (λ (m : Measured). m.index) h.is ∙ measured-index y z i
 
 found-stands : (y z : List Float) (found ks : List ℕ) → Found y z found ks → length ks * found_size ≤ length found → AllStand y z found (length ks)
 found-stands y z found [] f r p h = absurd (omega arith)
@@ -95,7 +89,7 @@ found-places : (y z : List Float) (found ks : List ℕ) → Found y z found ks �
 unfolding up_to
 found-places y z found [] f = refl
 found-places y z found (i ∷ older) f =
-    map_snoc (index_at found) (up_to (length older)) (length older)
+    map-append (index_at found) (up_to (length older)) (length older ∷ [])
     ∙ ap (λ (k : List ℕ). k ++ (index_at found (length older) ∷ [])) (found-places y z found older f.1)
     ∙ ap (λ (x : ℕ). reverse older ++ (x ∷ [])) (found-index y z found i (length older) f.0)
     ∙ sym (reverse-cons i older)

@@ -1,20 +1,18 @@
--- Laws of an axis that a loop reads from the front.
-use mathlib.Core.Path.{◌≡◌}
-use mathlib.Core.Bool.{true, not, ◌&&◌}
-use mathlib.Core.List.{List}
-use Prim.Native.Nat.{ℕ, ◌≤◌, ◌<◌, ◌+◌}
-use native.Mathlib.Numerals.{add-one}
-use lib.ListN.{length, drop, drop_of_length-le}
-use lib.Seq.{drop-cons}
-use lib.Ieee.{Float, nan, lt}
-use Rattle.numeric.specs.Arith.{at}
-use Rattle.rttime.specs.Time.{never_falls_from}
+-- An axis that a fold reads from the front, each time beside the one before it.
+use mathlib.Core.Path.{◌≡◌, sym, ◌∙◌}
+use mathlib.Core.Bool.{Bool, true, not, ◌&&◌}
+use mathlib.Core.List.{List, [], ◌∷◌}
+use lib.Ieee.{Float, lt}
+use Rattle.std.specs.List.{fold, zip}
+use Rattle.std.proofs.Math.Bool.{and-true, and_assoc}
+use Rattle.rttime.specs.Time.{never_falls, never_falls_from}
 
-pub falls-step : (s : Float) (l : List Float) (i : ℕ) → i < length l
-    → never_falls_from s (drop i l) ≡ (not (lt (at l i) s) && never_falls_from (at l i) (drop (i + 1) l))
+falls-fold : (s : Float) (l : List Float) (all : Bool)
+    → fold (λ (all : Bool) (p : Float × Float). all && not (lt p.1 p.0)) all (zip (s ∷ l) l) ≡ (all && never_falls_from s l)
 unfolding never_falls_from
-falls-step s l i h = rw (add-one, drop-cons l i nan)
+falls-fold s [] all = sym (and-true all)
+falls-fold s (x ∷ l) all = falls-fold x l (all && not (lt x s)) ∙ and_assoc all (not (lt x s)) (never_falls_from x l)
 
-pub falls-end : (s : Float) (l : List Float) (i : ℕ) → length l ≤ i → never_falls_from s (drop i l) ≡ true
-unfolding never_falls_from
-falls-end s l i h = rw (drop_of_length-le l h)
+pub falls-all : (t rest : List Float) (x : Float) → t ≡ x ∷ rest → fold (λ (all : Bool) (p : Float × Float). all && not (lt p.1 p.0)) true (zip t rest) ≡ never_falls t
+unfolding never_falls
+falls-all t rest x e = rw e (falls-fold x rest true)

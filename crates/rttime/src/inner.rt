@@ -26,7 +26,7 @@ pub fn t_at_index_frac(t: &[f32], x: f32) -> f32
     requires { length t.now ≤ exact_index }
     ensures { result ≡ time_at t.now x }
 {
-    if t.len() == 0 {
+    if t.is_empty() {
         return 0.0;
     }
     if x <= 0.0 {
@@ -45,14 +45,10 @@ pub fn t_at_index_frac(t: &[f32], x: f32) -> f32
 pub fn never_falls(t: &[f32]) -> bool
     ensures { result ≡ never_falls t.now }
 {
-    let Some((&first, rest)) = t.split_first() else {
+    let Some((_, rest)) = t.split_first() else {
         return true;
     };
-    let mut last = first;
-    let mut all = true;
-    for &x in rest {
-        all &= !(x < last);
-        last = x;
-    }
-    all
+    t.iter()
+        .zip(rest)
+        .fold(true, |all, (&last, &x)| all & !(x < last))
 }

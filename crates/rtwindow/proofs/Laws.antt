@@ -7,12 +7,18 @@ use native.Mathlib.Omega.{arith}
 use borrow.Author.Tests.{lt-ltb, le-ltb, ltb-true, ltb-false, eq-eqb, ne_eqb}
 use lib.Dec.{ltb, eqb}
 use lib.ListN.{length, get_or}
-use Rattle.std.specs.Prelude.{Option, Some, None}
+use Rattle.std.specs.Prelude.{Option, Some, None, Result, Ok, Err, MatchResult}
+use Rattle.std.specs.Result.{result_ok}
+use Rattle.std.specs.Ordering.{nat_cmp}
+use Rattle.std.specs.List.Sorted.{IsBinarySearchResult}
+use Rattle.std.proofs.lemmas.List.Sorted.{searched}
+use Rattle.params.specs.Params.{rising}
+use Rattle.frameindex.proofs.Laws.{rising-up}
 use Rattle.rtwindow.specs.declared.Frames.{Frames}
 use Rattle.rtwindow.specs.FrameWindow.{before, frame_with, widened, between, padded_window}
 
 -- the first place whose number is not below id, where numbers from it on are not
-pub before-is : (id : ℕ) (l : List ℕ) (r : ℕ) → r ≤ length l → ((j : ℕ) → j < r → get_or l j 0 < id)
+before-is : (id : ℕ) (l : List ℕ) (r : ℕ) → r ≤ length l → ((j : ℕ) → j < r → get_or l j 0 < id)
     → ((j : ℕ) → r ≤ j → j < length l → id ≤ get_or l j 0) → before id l ≡ r
 unfolding before
 before-is id [] r h low high = omega arith
@@ -22,17 +28,42 @@ before-is id (x ∷ xs) (suc r) h low high =
     (ap suc (before-is id xs r (omega arith) (λ j k. low (suc j) (omega arith)) (λ j k m. high (suc j) (omega arith) (omega arith))))
 
 module _ (ids : List ℕ) (id k : ℕ) (is : before id ids ≡ k) where
-  pub there : k < length ids → get_or ids k 0 ≡ id → Some k ≡ frame_with ids id
+  there : k < length ids → get_or ids k 0 ≡ id → Some k ≡ frame_with ids id
   unfolding frame_with
   there h e = rw (is, lt-ltb k (length ids) h, eq-eqb (get_or ids k 0) id e)
 
-  pub other : k < length ids → (get_or ids k 0 ≡ id → ⊥) → None ≡ frame_with ids id
+  other : k < length ids → (get_or ids k 0 ≡ id → ⊥) → None ≡ frame_with ids id
   unfolding frame_with
   other h e = rw (is, lt-ltb k (length ids) h, ne_eqb (get_or ids k 0) id e)
 
-  pub past : length ids ≤ k → None ≡ frame_with ids id
+  past : length ids ≤ k → None ≡ frame_with ids id
   unfolding frame_with
   past h = rw (is, le-ltb k (length ids) h)
+
+-- numbers that rise do not fall
+up : (ids : List ℕ) → rising ids ≡ true → (i j : ℕ) → i ≤ j → j < length ids → get_or ids i 0 ≤ get_or ids j 0
+up ids rise i j h m = go (ltb i j) refl
+  where
+    go : (b : Bool) → ltb i j ≡ b → get_or ids i 0 ≤ get_or ids j 0
+    go true t = omega (arith, rising-up ids i j rise (ltb-true i j t) m)
+    go false t = let e : i ≡ j = omega (arith, ltb-false i j t) in rw e (omega arith)
+
+-- what a binary search finds is the frame
+pub found-by : (ids : List ℕ) (id : ℕ) (r : Result ℕ ℕ) → rising ids ≡ true → IsBinarySearchResult (λ y. nat_cmp y id) ids r → result_ok r ≡ frame_with ids id
+found-by ids id r rise h = go r (searched ids id r h (up ids rise))
+  where
+    go : (r : Result ℕ ℕ) → MatchResult r (λ i. (i < length ids) × (get_or ids i 0 ≡ id)) (λ i. (i ≤ length ids) × ((k : ℕ) → k < i → get_or ids k 0 < id) × ((k : ℕ) → i ≤ k → k < length ids → id < get_or ids k 0)) → result_ok r ≡ frame_with ids id
+    go (Ok i) f =
+        there ids id i
+        (before-is id ids i (omega (arith, f.0)) (λ j k. omega (arith, f.1, rising-up ids j i rise k f.0)) (λ j k m. omega (arith, f.1, up ids rise i j k m)))
+        f.0 f.1
+    go (Err i) f =
+        let b = before-is id ids i f.0 f.1 (λ j k m. omega (arith, f.2 j k m)) in
+        absent (ltb i (length ids)) refl b
+      where
+        absent : (t : Bool) → ltb i (length ids) ≡ t → before id ids ≡ i → None ≡ frame_with ids id
+        absent true t b = let l = ltb-true i (length ids) t in other ids id i b l (λ e. absurd (omega (arith, e, f.2 i (omega arith) l)))
+        absent false t b = past ids id i b (ltb-false i (length ids) t)
 
 -- a frame that is found is one of the run
 pub found_lt : (ids : List ℕ) (id k : ℕ) → Some k ≡ frame_with ids id → k < length ids

@@ -10,13 +10,7 @@ fn frame_with(ids: &[u32], id: u32) -> Option<usize>
     requires { rising ids.now ≡ true }
     ensures is { result ≡ frame_with ids.now id }
 {
-    let k = framesums::inner::first_at(ids, 0, ids.len(), id);
-    if k < ids.len() {
-        if ids[k] == id {
-            return Some(k);
-        }
-    }
-    None
+    ids.binary_search(&id).ok()
 }
 
 // Frames lo to hi of n with `pad` more on either side, as far as there are any.

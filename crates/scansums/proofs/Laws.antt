@@ -9,17 +9,18 @@ use lib.Dec.{leb, ltb, eqb}
 use lib.ListN.{length, get_or, drop, set, length-set, take-append-drop, length-map}
 use lib.Seq.{get_or-set_same, get_or-set_other, drop-set-lt}
 use lib.Ieee.{Float, nan}
-use Rattle.refusal.proofs.Bools.{clash, both, and-false}
+use Rattle.refusal.proofs.Bools.{clash, both}
 use Rattle.numeric.specs.Arith.{◌⊕◌, 𝟎, at}
 use Rattle.digits.specs.Sorted.{up_to}
-use Rattle.digits.proofs.UpTo.{upto-length}
+use Rattle.digits.proofs.UpTo.{upto-length, front-map}
 use Rattle.frameindex.specs.FrameIndex.{Index}
 use Rattle.framesums.specs.declared.inner.Window.{Window}
 use Rattle.framesums.specs.declared.inner.Span.{Span}
 use Rattle.framesums.specs.Sums.{in_scans, add_points, add_frame, add_frames, at_scan, scan_sums}
 use Rattle.framesums.specs.Steps.{PointsOf}
 use Rattle.scansums.specs.Steps.{scans_of, Stepped}
-use Rattle.framesums.proofs.Laws.{points-take, points-skip, points_none, front-map}
+use Rattle.framesums.proofs.Laws.{points-take, points-skip, points_none}
+use Rattle.std.proofs.Math.Bool.{and-false}
 
 -- a window of one scan has that scan and no other
 one-scan : (w : Window) (a s : ℕ) → a ≡ s → in_scans (at_scan w a) s ≡ true
@@ -153,7 +154,7 @@ module _ (ix : Index) (w : Window) (f n : ℕ) (old : List Float) where
         let size' : length old ≡ length first = z.size in
         let sums : ℕ → Float = λ (k : ℕ). add_frames ix (at_scan w (w.scan_lo + k)) n f 𝟎 in
         sym (take-append-drop (scans_of w) out)
-        ∙ ap (λ (x : List Float). x ++ drop (scans_of w) out) (front-map out sums (scans_of w) (omega arith) (λ k l. sym (frames-none ix (at_scan w (w.scan_lo + k)) (f + g) (n - g) (at out k) (omega arith)) ∙ d.left k l))
+        ∙ ap (λ (x : List Float). x ++ drop (scans_of w) out) (front-map out nan sums (scans_of w) (omega arith) (λ k l. sym (frames-none ix (at_scan w (w.scan_lo + k)) (f + g) (n - g) (at out k) (omega arith)) ∙ d.left k l))
         ∙ ap (λ (x : List Float). map sums (up_to (scans_of w)) ++ x) (d.rest ∙ rw (sym e) z.rest)
 
   pub summing-more : (g : ℕ) (p : Span) (out new : List Float) → Summing g out → g < n → PointsOf ix w (f + g) p

@@ -19,16 +19,16 @@ fn deal_points(ix: &CheckedIndex, p: Span, w: Window, out: &mut [f32])
     requires { (p.from ≤ p.to) × (p.to ≤ length ix.now.scans) × (scans_of w ≤ length out.old) }
     ensures { Stepped (λ k. add_points ix.now (at_scan w (w.scan_lo + k)) (p.to - p.from) p.from) (scans_of w) out.old out.new }
 {
+    let scans = ix.scans;
     let readings = ix.readings;
-    for (i, &scan) in ix.scans[p.from..p.to].iter().enumerate() {
+    for (&scan, &reading) in scans[p.from..p.to].iter().zip(&readings[p.from..p.to]) {
         if w.has_scan(scan) {
-            let k = (scan - w.scan_lo) as usize;
-            out[k] += readings[p.from + i];
+            out[(scan - w.scan_lo) as usize] += reading;
         }
     }
 }
 
-// A sum for each scan of the window, over n frames, by their places in the run.
+// A sum for each scan of the window, over n frames, by their places in the run: an index has no list of frames.
 pub fn put_scan_sums(ix: &CheckedIndex, from: usize, n: usize, w: Window, out: &mut [f32])
     requires { (from + n < length ix.now.starts) × (w.scan_lo ≤ w.scan_hi) × (scans_of w ≤ length out.old) }
     ensures { out.new ≡ scan_sums ix.now w from n ++ drop (scans_of w) out.old }

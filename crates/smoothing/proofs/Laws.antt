@@ -156,15 +156,7 @@ unfolding filled
 filled-part f a b d last p q e = rw (Post-is a b d p, e, mid_len a b d q)
 
 -- ---- sums of weights
-pub sum_step : (a : Float) (l : List Float) (i : ℕ) → i < length l → sum_from a (drop i l) ≡ sum_from (a ⊕ at l i) (drop (i + 1) l)
-unfolding sum_from
-sum_step a l i h = rw (add-one, drop-cons l i nan)
-
-pub sum-end : (a : Float) (l : List Float) (i : ℕ) → length l ≤ i → sum_from a (drop i l) ≡ a
-unfolding sum_from
-sum-end a l i h = rw (drop_of_length-le l h)
-
-sum-snoc : (a : Float) (l : List Float) (w : Float) → sum_from a (l ++ (w ∷ [])) ≡ sum_from a l ⊕ w
+pub sum-snoc : (a : Float) (l : List Float) (w : Float) → sum_from a (l ++ (w ∷ [])) ≡ sum_from a l ⊕ w
 unfolding sum_from
 sum-snoc a [] w = refl
 sum-snoc a (v ∷ l) w = sum-snoc (a ⊕ v) l w

@@ -11,11 +11,7 @@ ghost use Rattle.smoothing.specs.Steps.{filled, added};
 fn sum_of(weights: &[f32]) -> f32
     ensures { result ≡ sum_from 𝟎 weights.now }
 {
-    let mut sum = 0.0f32;
-    for &w in weights {
-        sum += w;
-    }
-    sum
+    weights.iter().fold(0.0, |sum, &w| sum + w)
 }
 
 fn divide(dst: &mut [f32], by: f32)

@@ -1,15 +1,13 @@
 -- A row of zeros, smoothed by any weights, has only zeros and NaNs, so that nothing of it is listed.
 use mathlib.Core.Path.{◌≡◌, refl, sym, ap, ◌∙◌}
 use mathlib.Core.Bool.{Bool, true, false, cond, ◌&&◌, ◌||◌, beq}
-use mathlib.Core.List.{List, [], ◌∷◌}
+use mathlib.Core.List.{List, [], ◌∷◌, ◌++◌}
 use Prim.Native.Nat.{ℕ, zero, suc, ◌+◌, ◌-◌, ◌*◌, ◌≤◌, ◌<◌}
 use native.Mathlib.Nat.{mul-pos, zero-mul, mul-zero}
-use native.Mathlib.Numerals.{add-one}
 use native.Mathlib.Omega.{arith}
 use borrow.Author.Tests.{eqb-true, eqb-false, ltb-true, ltb-false}
 use lib.Dec.{leb, ltb, eqb}
-use lib.ListN.{length, drop, drop_of_length-le, get_or-eq_default}
-use lib.Seq.{drop-cons}
+use lib.ListN.{length, get_or-eq_default}
 use lib.Ieee.{Float, nan, inf, fin, binary32, up, down, unlike, round, sum, add, mul, div, lt, eq, of_bits, size, span, climb, units, odd}
 use lib.Ieee.Fits.{up_pos, down_pos}
 use lib.Ieee.Scale.{round_same}
@@ -23,6 +21,7 @@ use Rattle.params.specs.declared.ImDetectParams.{ImDetectParams}
 use Rattle.rowsearch.specs.Qualifying.{highest_reading, reaches, that_qualify, qualifying, kept}
 use Rattle.rowsearch.specs.Suppression.{keep_all}
 use Rattle.smoothrow.specs.SmoothRow.{searched, all_zero, NoneOfZeros}
+use Rattle.std.proofs.Math.Bool.{and_assoc, and-true}
 
 -- ---- zeros and NaNs
 
@@ -184,10 +183,7 @@ zeros-skip p ws z h = go (eqb (length ws) 0 || leb (length z) 2)
     go false = none_kept p (smoothed ws z) z (no-candidate (smoothed ws z) (length (smoothed ws z) - 2) (λ i. smoothed-idle ws z i h))
 
 -- ---- the test for it
-pub zeros-step : (z : List Float) (i : ℕ) → i < length z → all_zero (drop i z) ≡ (eq (at z i) 𝟎 && all_zero (drop (i + 1) z))
+pub zeros-push : (z : List Float) (x : Float) → all_zero (z ++ (x ∷ [])) ≡ (all_zero z && eq x 𝟎)
 unfolding all_zero
-zeros-step z i h = rw (add-one, drop-cons z i nan)
-
-pub zeros-end : (z : List Float) (i : ℕ) → length z ≤ i → all_zero (drop i z) ≡ true
-unfolding all_zero
-zeros-end z i h = rw (drop_of_length-le z h)
+zeros-push [] x = and-true (eq x 𝟎)
+zeros-push (y ∷ z) x = ap (λ (b : Bool). eq y 𝟎 && b) (zeros-push z x) ∙ sym (and_assoc (eq y 𝟎) (all_zero z) (eq x 𝟎))

@@ -7,22 +7,18 @@ use super::kernel::Kernel;
 use params::ImDetectParams;
 use rowsearch::scratch::Scratch;
 
-// Whether every reading is a zero.
+// Whether every reading is a zero. All are looked at, so that many are at once.
 fn all_zero(z: &[f32]) -> bool
     ensures { result ≡ all_zero z.now }
 {
-    let mut all = true;
-    for &reading in z {
-        all &= reading == 0.0;
-    }
-    all
+    z.iter().fold(true, |all, x| all & (*x == 0.0))
 }
 
 // Whether a row z is searched as it is: there are no weights, or it has at most 2 samples.
 fn is_raw(kernel: &Kernel<'_>, z: &[f32]) -> bool
     ensures { result ≡ is_raw kernel.now.weights.now z.now }
 {
-    (kernel.weights.len() == 0) | (z.len() <= 2)
+    kernel.weights.is_empty() | (z.len() <= 2)
 }
 
 // Searches a row z, smoothed into y where weights are given, and answers how many apexes are kept. What is measured of them stands at the

@@ -51,11 +51,7 @@ impl Span {
     fn if_wide(self, least: u32) -> Option<Span>
         ensures { result ≡ if_wide least self }
     {
-        if self.width >= least {
-            Some(self)
-        } else {
-            None
-        }
+        (self.width >= least).then_some(self)
     }
 }
 

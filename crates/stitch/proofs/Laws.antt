@@ -1,17 +1,25 @@
 -- Laws of the answer to a list to stitch.
-use mathlib.Core.Path.{◌≡◌, refl, sym, ◌∙◌}
-use mathlib.Core.Bool.{Bool, true, ◌||◌}
-use mathlib.Core.List.{List, ◌++◌}
+use mathlib.Core.Path.{◌≡◌, refl, sym, ap, ◌∙◌}
+use mathlib.Core.Bool.{Bool, true, false, ◌||◌}
+use mathlib.Core.List.{List, [], ◌∷◌, ◌++◌}
 use Prim.Native.Nat.{ℕ, ◌*◌, ◌≤◌}
 use borrow.Author.Tests.{ltb-false, not-false}
 use lib.Dec.{ltb}
-use lib.ListN.{length, take, drop}
+use lib.ListN.{length, get_or, take, drop}
 use lib.Seq.{take_at, drop_at}
-use Rattle.std.specs.Prelude.{Ok, Err}
+use lib.IntN.{pos}
+use lib.Ieee.{binary32, of_bits}
+use denote.Enum.Declared.{tag_of}
+use Rattle.std.specs.Prelude.{Ok, Err, Option, None, Some}
+use Rattle.std.specs.Bool.{then_some}
+use Rattle.std.specs.Option.{unwrap_or, is_some}
+use Rattle.std.proofs.Common.{is_lt, int_cmp}
+use Rattle.refusal.specs.contracts.Refusal.{the_type}
+use Rattle.refusal.specs.declared.Refusal.TheVariants.{Lengths, Size, Reading, Value, Axis, Weights, Order, Identity, Record, Text, Room, Scratch, Scale, Index}
 use Rattle.refusal.specs.declared.Refusal.{Refusal}
 use Rattle.refusal.specs.Numbered.{number_of}
 use Rattle.refusal.proofs.NumberedLaws.{number_of-positive, says-err, says-ok}
-use Rattle.refusal.proofs.Bools.{neither}
+use Rattle.refusal.proofs.Bools.{neither, clash}
 use Rattle.limits.specs.Limits.{max_list}
 use Rattle.record.specs.Record.{size}
 use Rattle.peaklist.specs.PeakList.{peaks_of}
@@ -27,6 +35,49 @@ use Rattle.stitch.specs.declared.numbers.Rooms.{Rooms}
 use Rattle.stitch.specs.StitchNumber.{count_in, peaks_in, stitch_number, other_number}
 use Rattle.stitch.specs.Answer.{Lent, number_for, Answered}
 use Rattle.stitch.proofs.StitchNumberLaws.{none-for, no_other}
+
+-- ---- what a caller may know of the parameters
+
+-- parameters in the place of none
+no_params : StitchParams
+no_params =
+    record {
+      min_overlap_frames = 0;
+      max_scan_delta = 0;
+      jaccard_min = of_bits binary32 0;
+      max_tof_row_delta = 0;
+      allow_cross_groups = true;
+      min_im_overlap_scans = 0;
+      im_jaccard_min = of_bits binary32 0;
+      require_mutual_apex_inside = true;
+    }
+
+-- whether there are any, and which
+pub told-or-not : (params : Option StitchParams) → (told : Bool) × (p : StitchParams) × (params ≡ then_some told p)
+told-or-not None = (false, no_params, refl)
+told-or-not (Some p) = (true, p, refl)
+
+-- the parameters that are there are those that are meant
+pub params-are : (told : Bool) (p q : StitchParams) → then_some told p ≡ Some q → p ≡ q
+params-are true p q e = ap (λ o. unwrap_or o p) e
+params-are false p q e = clash _ (ap is_some e) refl
+
+-- ---- the order of refusals is that of their numbers
+pub before-identity : (e : Refusal) → is_lt (int_cmp (get_or (pos 1 ∷ pos 2 ∷ pos 3 ∷ pos 4 ∷ pos 5 ∷ pos 6 ∷ pos 7 ∷ pos 8 ∷ pos 9 ∷ pos 10 ∷ pos 20 ∷ pos 21 ∷ pos 22 ∷ pos 23 ∷ []) (tag_of the_type e) (pos 0)) (pos 8)) ≡ ltb (number_of e) 8
+before-identity Lengths = refl
+before-identity Size = refl
+before-identity Reading = refl
+before-identity Value = refl
+before-identity Axis = refl
+before-identity Weights = refl
+before-identity Order = refl
+before-identity Identity = refl
+before-identity Record = refl
+before-identity Text = refl
+before-identity Room = refl
+before-identity Scratch = refl
+before-identity Scale = refl
+before-identity Index = refl
 
 -- what holds of a list that no number but 8 refuses
 pub record Checked (list : List ℕ) (room : Rooms) : Type 0 where

@@ -1,40 +1,42 @@
 // The entry, for a caller that may know a further reason for number 4.
+ghost use Rattle.std.specs.Prelude.{◌≡◌, Bool};
+ghost use Rattle.std.specs.Bool.{then_some};
+ghost use Rattle.matching.specs.declared.StitchParams.{StitchParams};
 ghost use Rattle.passes.specs.Lists.{SameLists};
 ghost use Rattle.stitch.specs.Answer.{lent_in, Answered};
 
 use super::numbers::Rooms;
 use matching::StitchParams;
 use passes::Lent;
-use record::ImPeak1D;
+use peaklist::Records;
 use refusal::Refusal;
 
-// Where `told` is false number 4 applies whatever the parameters are.
+// Where there are no parameters number 4 applies: the caller found them wrong.
 pub fn stitch_told(
     list: &[u32],
-    params: StitchParams,
-    told: bool,
+    params: Option<StitchParams>,
     lists: &mut Lent<'_>,
 ) -> Result<usize, Refusal>
-    ensures answer { Answered told list.now params (lent_in lists.old) (lent_in lists.new) result }
+    ensures answer { (told : Bool) (p : StitchParams) → params ≡ then_some told p → Answered told list.now p (lent_in lists.old) (lent_in lists.new) result }
     ensures same { SameLists lists.old lists.new }
 {
-    let n = list.len() / ImPeak1D::WORDS;
+    let records = Records::of(list);
     // an identity twice is found last, since what finds it leaves the order that stitching starts from
-    match super::numbers::check(list, params, told, Rooms::of(lists)) {
-        Ok(()) => {}
+    match super::numbers::check(list, params, Rooms::of(lists)) {
+        Ok(params) => {
+            if distinct::inner::put_by_identity(records, lists.order) {
+                return Ok(passes::inner::stitch_peaks(records, params, lists));
+            }
+            Err(Refusal::Identity)
+        }
         Err(refusal) => {
-            if refusal.number() < 8 {
+            if refusal < Refusal::Identity {
                 return Err(refusal);
             }
-            if distinct::inner::all_distinct(list, n) {
+            if distinct::inner::all_distinct(records) {
                 return Err(refusal);
             }
-            return Err(Refusal::Identity);
+            Err(Refusal::Identity)
         }
     }
-    if distinct::inner::put_by_identity(list, n, lists.order) {
-        let count = passes::inner::stitch_peaks(list, n, params, lists);
-        return Ok(count);
-    }
-    Err(Refusal::Identity)
 }

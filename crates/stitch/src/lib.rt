@@ -22,5 +22,5 @@ pub fn stitch_im_peaks_flat_unordered_impl(
     ensures answer { Answered true list.now params (lent_in lists.old) (lent_in lists.new) result }
     ensures same { SameLists lists.old lists.new }
 {
-    inner::stitch_told(list, params, true, lists)
+    inner::stitch_told(list, Some(params), lists)
 }

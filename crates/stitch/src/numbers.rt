@@ -1,5 +1,7 @@
 // The numbers of a list to stitch.
-ghost use Rattle.std.specs.Prelude.{◌≡◌};
+ghost use Rattle.std.specs.Prelude.{◌≡◌, Bool, Some, IfOk};
+ghost use Rattle.std.specs.Bool.{then_some};
+ghost use Rattle.matching.specs.declared.StitchParams.{StitchParams};
 ghost use Rattle.refusal.specs.Numbered.{number_in};
 ghost use Rattle.stitch.specs.StitchNumber.{other_number};
 ghost use Rattle.stitch.specs.Answer.{lent_in, rooms_of};
@@ -35,10 +37,15 @@ impl Rooms {
     }
 }
 
-// Refuses with the lowest number but 8 that applies. Where `told` is false number 4 applies whatever the parameters are.
+// The parameters, or the lowest number but 8 that applies. Where there are none number 4 does.
 #[tactic(auto, unfolding(crate::specs::StitchNumber::other_number, refusal::specs::Refusal::first_of))]
-pub fn check(list: &[u32], params: StitchParams, told: bool, room: Rooms) -> Result<(), Refusal>
-    ensures { number_in result ≡ other_number told list.now params room }
+pub fn check(
+    list: &[u32],
+    params: Option<StitchParams>,
+    room: Rooms,
+) -> Result<StitchParams, Refusal>
+    ensures number { (told : Bool) (p : StitchParams) → params ≡ then_some told p → number_in result ≡ other_number told list.now p room }
+    ensures given { IfOk result (λ p. params ≡ Some p) }
 {
     if list.len() % ImPeak1D::WORDS != 0 {
         return Err(Refusal::Lengths);
@@ -47,9 +54,9 @@ pub fn check(list: &[u32], params: StitchParams, told: bool, room: Rooms) -> Res
     if n > limits::MAX_LIST {
         return Err(Refusal::Size);
     }
-    if !(told & params.is_sound()) {
+    let Some(params) = params.filter(|params| params.is_sound()) else {
         return Err(Refusal::Value);
-    }
+    };
     if !record::inner::all_sound(list) {
         return Err(Refusal::Record);
     }
@@ -60,5 +67,5 @@ pub fn check(list: &[u32], params: StitchParams, told: bool, room: Rooms) -> Res
     if (room.order < n) | (room.groups < n) | (room.keys < words) | (room.merged < words) {
         return Err(Refusal::Scratch);
     }
-    Ok(())
+    Ok(params)
 }

@@ -13,13 +13,14 @@ use lib.Dec.{leb, eqb}
 use lib.ListN.{length, take, drop}
 use lib.Seq.{take_at, take-take, drop-append-add}
 use Rattle.limits.specs.Limits.{max_count}
-use Rattle.refusal.proofs.Bools.{clash, and-false}
+use Rattle.refusal.proofs.Bools.{clash}
 use Rattle.table.specs.Sizes.{max_number, max_fields, max_line}
 use Rattle.table.specs.declared.Progress.{Progress}
 use Rattle.table.specs.declared.Verdict.{Verdict}
 use Rattle.table.specs.Text.{comma, onto, fields, all_digits, value, is_number, all_numbers, is_row, params_text, params_from, params_of, lf, lf_from, next_line}
 use Rattle.table.specs.Table.{cr, lines, ends_in_cr, verdict}
 use Rattle.table.specs.Lines.{no_lf, FirstLine, FirstLineBad, OnlyLine, ForeignRefused, LongRefused}
+use Rattle.std.proofs.Math.Bool.{and-false}
 
 -- ---- where a line ends
 

@@ -11,54 +11,23 @@ ghost use Rattle.table.specs.Print.{decimal, hex_digit, hex8, heading, refusal, 
 use super::{Progress, RowsSoFar, Verdict};
 use record::ImPeak1D;
 
-// Whether the field that has been read may end: a digit at least, a number to 16,777,215, and a place in the row.
-fn may_end(value: u32, digits: u32, count: usize) -> bool
-    ensures { result ≡ (leb 1 digits && leb value max_number && ltb count max_fields) }
-{
-    (1 <= digits) & (value <= super::MAX_NUMBER) & (count < super::MAX_FIELDS)
-}
-
-// Whether the field that has been read may go on with a byte: a digit, and the eighth at most.
-fn may_go_on(digits: u32, b: u8) -> bool
-    ensures { result ≡ (leb 48 b && leb b 57 && ltb digits 8) }
-{
-    b.is_ascii_digit() & (digits < 8)
-}
-
-// The readings of a line, given without its CR LF, to the front of `row`. Where the line is no row, some of the first 4,096 places of
-// `row` may have been written. One pass: the number, its digits and the count are the state of the field that is being read, whose end is
-// not known before its comma.
+// The readings of a line, given without its CR LF, to the front of `row`, and how many there are. Where the line is no row, some of the
+// first 4,096 places of `row` may have been written.
 pub fn parse_row(line: &[u8], row: &mut [f32]) -> Option<usize>
     requires { max_fields ≤ length row.old }
     ensures text { result ≡ row_text line.now }
     ensures front { is_row line.now ≡ true → row.new ≡ readings line.now ++ drop (length (fields line.now)) row.old }
     ensures rest { drop max_fields row.new ≡ drop max_fields row.old }
 {
-    let mut value = 0u32;
-    let mut digits = 0u32;
     let mut count = 0usize;
-    for &b in line {
-        if b == b',' {
-            if !may_end(value, digits, count) {
-                return None;
-            }
-            row[count] = numeric::of_u32(value);
-            count += 1;
-            value = 0;
-            digits = 0;
-        } else {
-            if !may_go_on(digits, b) {
-                return None;
-            }
-            value = super::with_digit(value, b);
-            digits += 1;
+    for field in line.split(|b| *b == b',') {
+        if count == super::MAX_FIELDS {
+            return None;
         }
+        row[count] = numeric::of_u32(super::number(field, super::MAX_NUMBER)?);
+        count += 1;
     }
-    if !may_end(value, digits, count) {
-        return None;
-    }
-    row[count] = numeric::of_u32(value);
-    Some(count + 1)
+    Some(count)
 }
 
 // The verdict on the next line, given without its CR LF. The readings of an accepted row stand at the front of `row`; after

@@ -10,20 +10,20 @@ use borrow.Rule.Slice.PartMut.{put_mid}
 use Rattle.table.specs.Sizes.{line_room}
 use Rattle.table.specs.Print.{put_at}
 use Rattle.table.specs.Lines.{no_lf}
-use Rattle.table.proofs.Laws.{part}
 use Rattle.table.proofs.Buffers.{put-part}
 use Rattle.tabletext.specs.declared.inner.Fed.{Fed}
 use Rattle.tabletext.specs.Bytes.{text_from, Put, Through}
 use Rattle.tablejob.specs.declared.inner.Job.{Job}
 use Rattle.tablejob.specs.Stands.{first, held, at_front, with_bytes, handed_over, over, Within, Ready, Added, Stands, Ends, StandsFirst, StandsRead, StandsWritten, EndsRefused}
+use Rattle.std.proofs.lemmas.List.{take_rest}
 
 -- ---- text behind the text that waits
 
--- T has been put to the front of the part `&mut out[w..]`
+-- T has been put to the front of the take_rest `&mut out[w..]`
 pub added : (out T last : List ℕ) (w k : ℕ) → w ≤ length out → k ≡ length T → k ≤ length (take (length out - w) (drop w out))
     → last ≡ T ++ drop k (take (length out - w) (drop w out)) → Added out (put_mid w (length out - w) out last) T w (w + k)
 added out T last w k h e u l =
-    let r : k ≤ length out - w = rw (part out w, length-drop) at u in
+    let r : k ≤ length out - w = rw (take_rest out w, length-drop) at u in
     record { count = omega arith; room = omega arith; text = put-part out T last w k e l }
 
 -- the text that waits then
@@ -84,7 +84,7 @@ lines-done buf out last j f w on k p t =
     let wt = w.text in
     let wo = w.order in
     let wb = w.bytes in
-    let l_p : length P ≡ length out - j.waiting = ap length (part out j.waiting) ∙ length-drop j.waiting out in
+    let l_p : length P ≡ length out - j.waiting = ap length (take_rest out j.waiting) ∙ length-drop j.waiting out in
     let n : length (take f.used last) ≡ f.used = length-take-le f.used last (omega (arith, p.used)) in
     let l : last ≡ take f.used last ++ drop f.used P = sym (take-append-drop f.used last) ∙ ap (λ (z : List ℕ). take f.used last ++ z) p.past in
     let hl : length (held buf j) ≡ j.have - j.from = length-take-le (j.have - j.from) (drop j.from buf) (simp length-drop (omega arith)) in

@@ -8,8 +8,7 @@ use native.Mathlib.Numerals.{add-one}
 use native.Mathlib.Omega.{arith}
 use borrow.Author.Tests.{ltb-false, eq-eqb, eqb-false}
 use lib.Dec.{ltb, eqb}
-use lib.ListN.{length, get_or, drop, drop_of_length-le}
-use lib.Seq.{drop-cons}
+use Rattle.std.specs.List.{fold}
 use lib.Ieee.{Float, nan, inf, fin, binary32, up, down, round, lt, eq, le, is_nan, of_bits, of_int, to_unsigned, to_bits}
 use lib.Ieee.Exact.{HasValue}
 use lib.Ieee.Back.{round_whole}
@@ -18,10 +17,11 @@ use Rattle.limits.specs.Limits.{max_tof_bound, max_bin_place, exact_index}
 use Rattle.numeric.specs.Arith.{𝟎, index_f}
 use Rattle.numeric.specs.Numeric.{cast_f, in_range}
 use Rattle.refusal.proofs.Bools.{clash, neither}
-use Rattle.numeric.proofs.Laws.{and-true}
 use Rattle.tof.specs.declared.TofScale.{TofScale}
-use Rattle.tof.specs.Tof.{Sound, edge, lowest_tof, highest_tof}
+use Rattle.tof.specs.declared.inner.Span.{Span}
+use Rattle.tof.specs.Tof.{Sound, edge, lowest_tof, highest_tof, ends_of}
 use Rattle.tof.proofs.TofLaws.{edges-held, plain}
+use Rattle.std.proofs.Math.Bool.{and-true}
 
 -- ---- edges
 pub edge-fits : (s : TofScale) → Sound s → (i : ℕ) → i ≤ s.num_bins → edge s i ≤ max_tof_bound
@@ -74,18 +74,23 @@ unfolding lowest_tof
 low-le [] = omega arith
 low-le (t ∷ ts) = let r = low-le ts in omega arith
 
-pub low_step : (ts : List ℕ) (i : ℕ) → i < length ts → lowest_tof (drop i ts) ≡ min (get_or ts i 0) (lowest_tof (drop (i + 1) ts))
-unfolding lowest_tof
-low_step ts i h = rw (add-one, drop-cons ts i 0)
+-- the ends of what was seen, after one more value
+abbrev pub seen : Span → ℕ → Span
+seen e t = record { lo = min e.lo t; hi = max e.hi t }
 
-pub high-step : (ts : List ℕ) (i : ℕ) → i < length ts → highest_tof (drop i ts) ≡ max (get_or ts i 0) (highest_tof (drop (i + 1) ts))
-unfolding highest_tof
-high-step ts i h = rw (add-one, drop-cons ts i 0)
+abbrev pub none_seen : Span
+none_seen = record { lo = 4294967295; hi = 0 }
 
-pub low_end : (ts : List ℕ) (i : ℕ) → length ts ≤ i → lowest_tof (drop i ts) ≡ 4294967295
-unfolding lowest_tof
-low_end ts i h = rw (drop_of_length-le ts h)
+seen-from : (ts : List ℕ) (e : Span) → e.lo ≤ 4294967295 → fold seen e ts ≡ record { lo = min e.lo (lowest_tof ts); hi = max e.hi (highest_tof ts) }
+unfolding lowest_tof highest_tof
+seen-from [] e h = let a : min e.lo 4294967295 ≡ e.lo = omega arith in let b : max e.hi 0 ≡ e.hi = omega arith in rw (a, b)
+seen-from (t ∷ ts) e h = seen-from ts (seen e t) (omega arith) ∙ (
+    let a : min (min e.lo t) (lowest_tof ts) ≡ min e.lo (min t (lowest_tof ts)) = omega arith in
+    let b : max (max e.hi t) (highest_tof ts) ≡ max e.hi (max t (highest_tof ts)) = omega arith in
+    rw (a, b) refl)
 
-pub high_end : (ts : List ℕ) (i : ℕ) → length ts ≤ i → highest_tof (drop i ts) ≡ 0
-unfolding highest_tof
-high_end ts i h = rw (drop_of_length-le ts h)
+pub seen_all : (ts : List ℕ) → fold seen none_seen ts ≡ ends_of ts
+seen_all ts = let l = low-le ts in
+    let a : min 4294967295 (lowest_tof ts) ≡ lowest_tof ts = omega arith in
+    let b : max 0 (highest_tof ts) ≡ highest_tof ts = omega arith in
+    seen-from ts none_seen (omega arith) ∙ rw (a, b) refl

@@ -1,14 +1,21 @@
 // Steps of the scale, for values that a caller has checked.
-ghost use Rattle.std.specs.Prelude.{◌≡◌, true, ◌≤◌, ◌<◌, min, max, OnOk};
+ghost use Rattle.std.specs.Prelude.{◌≡◌, true, ◌≤◌, ◌<◌};
 ghost use Rattle.limits.specs.Limits.{max_tof, max_bin_place};
 ghost use Rattle.numeric.specs.Numeric.{in_range};
-ghost use Rattle.refusal.specs.Numbered.{number_in};
-ghost use Rattle.tof.specs.Tof.{Sound, edge, in_scale, bin_of, window_bins, center_f, center_at_f, row_place, sound_step, sound_ends, agreeing, scale_number, ends_of, scale_of};
+ghost use Rattle.tof.specs.Tof.{edge, in_scale, bin_of, window_bins, center_f, center_at_f, row_place, sound_step, sound_ends, agreeing, ends_of, scale_of};
 
-use super::TofScale;
+use super::{CheckedScale, TofScale};
 use params::RowPlace;
-use refusal::Refusal;
 
+// Whether a value of a call's own, which number 4 holds to a range, and its TOF values, which number 5 does, are in range.
+#[derive(Clone, Copy)]
+pub struct Further {
+    pub value: bool,
+    pub tofs: bool,
+}
+
+// Bins or TOF values from a first to a last one. matching's Interval has the same two fields, and methods of matching's own: these would
+// have to stand beside a shared struct, in a crate below both.
 #[derive(Clone, Copy)]
 pub struct Span {
     pub lo: u32,
@@ -43,25 +50,7 @@ pub fn agrees(s: TofScale) -> bool
     }
     (s.tof_min % s.tof_step == 0)
         & (s.tof_max % s.tof_step == 0)
-        & (s.num_bins as u64 == ((s.tof_max - s.tof_min) / s.tof_step) as u64 + 1)
-}
-
-// Refuses with the lowest number that applies.
-#[tactic(auto, unfolding(crate::specs::Tof::scale_number, refusal::specs::Refusal::first_of))]
-pub fn check(s: TofScale, value: bool, tofs: bool) -> Result<(), Refusal>
-    ensures number { number_in result ≡ scale_number s value tofs }
-    ensures sound { OnOk result (Sound s × (value ≡ true) × (tofs ≡ true)) }
-{
-    if !(sound_step(s.tof_step) & value) {
-        return Err(Refusal::Value);
-    }
-    if !(sound_ends(s) & tofs) {
-        return Err(Refusal::Axis);
-    }
-    if !agrees(s) {
-        return Err(Refusal::Scale);
-    }
-    Ok(())
+        & (u64::from(s.num_bins) == u64::from((s.tof_max - s.tof_min) / s.tof_step) + 1)
 }
 
 // ---- bins
@@ -81,51 +70,50 @@ pub fn bin_of(s: TofScale, tof: u32) -> u32
 
 // The first and the last bin of a window.
 #[tactic(auto, unfolding(crate::specs::Tof::window_bins))]
-pub fn window_bins(s: TofScale, a: u32, b: u32) -> Span
-    requires { Sound s }
-    ensures { result ≡ window_bins s a b }
+pub fn window_bins(s: CheckedScale, a: u32, b: u32) -> Span
+    ensures { result ≡ window_bins s.scale a b }
 {
     let lo = a.min(b);
     let hi = a.max(b);
-    if hi <= s.tof_min {
+    if hi <= s.scale.tof_min {
         return Span { lo: 0, hi: 0 };
     }
-    if lo >= s.tof_max {
-        let last = s.num_bins - 1;
+    if lo >= s.scale.tof_max {
+        let last = s.scale.num_bins - 1;
         return Span { lo: last, hi: last };
     }
     Span {
-        lo: bin_of(s, lo.max(s.tof_min)),
-        hi: bin_of(s, hi.min(s.tof_max)),
+        lo: bin_of(s.scale, lo.max(s.scale.tof_min)),
+        hi: bin_of(s.scale, hi.min(s.scale.tof_max)),
     }
 }
 
 // ---- edges and centres
 
-pub fn edge_of(s: TofScale, i: u32) -> u32
-    requires { Sound s × (i ≤ s.num_bins) }
-    ensures { result ≡ edge s i }
+pub fn edge_of(s: CheckedScale, i: u32) -> u32
+    requires { i ≤ s.scale.num_bins }
+    ensures { result ≡ edge s.scale i }
 {
-    s.tof_min + i * s.tof_step
+    s.scale.tof_min + i * s.scale.tof_step
 }
 
 #[tactic(auto, unfolding(crate::specs::Tof::center_f))]
-pub fn center_of(s: TofScale, i: u32) -> f32
-    requires { Sound s × (i < s.num_bins) }
-    ensures { result ≡ center_f s i }
+pub fn center_of(s: CheckedScale, i: u32) -> f32
+    requires { i < s.scale.num_bins }
+    ensures { result ≡ center_f s.scale i }
 {
     0.5 * (numeric::of_u32(edge_of(s, i)) + numeric::of_u32(edge_of(s, i + 1)))
 }
 
 // The centre at a place between bins.
-pub fn center_between(s: TofScale, mu: f32) -> f32
-    requires { Sound s × (in_range max_bin_place mu ≡ true) }
-    ensures { result ≡ center_at_f s mu }
+pub fn center_between(s: CheckedScale, mu: f32) -> f32
+    requires { in_range max_bin_place mu ≡ true }
+    ensures { result ≡ center_at_f s.scale mu }
 {
     if mu <= 0.0 {
         return center_of(s, 0);
     }
-    let last = s.num_bins - 1;
+    let last = s.scale.num_bins - 1;
     if mu >= numeric::of_u32(last) {
         return center_of(s, last);
     }
@@ -135,16 +123,16 @@ pub fn center_between(s: TofScale, mu: f32) -> f32
 }
 
 // What row i is told of its place.
-pub fn row_place(s: TofScale, i: u32) -> RowPlace
-    requires { Sound s × (i < s.num_bins) }
-    ensures { result ≡ row_place s i }
+pub fn row_place(s: CheckedScale, i: u32) -> RowPlace
+    requires { i < s.scale.num_bins }
+    ensures { result ≡ row_place s.scale i }
 {
     let lo = edge_of(s, i);
     RowPlace {
         tof_row: i,
-        tof_center: lo + (s.tof_step + 1) / 2,
+        tof_center: lo + (s.scale.tof_step + 1) / 2,
         tof_lo: lo,
-        tof_hi: lo + s.tof_step,
+        tof_hi: lo + s.scale.tof_step,
     }
 }
 
@@ -154,13 +142,16 @@ pub fn row_place(s: TofScale, i: u32) -> RowPlace
 pub fn ends_of(tofs: &[u32]) -> Span
     ensures { result ≡ ends_of tofs.now }
 {
-    let mut lo = u32::MAX;
-    let mut hi = 0u32;
-    for &t in tofs {
-        lo = lo.min(t);
-        hi = hi.max(t);
-    }
-    Span { lo, hi }
+    tofs.iter().fold(
+        Span {
+            lo: u32::MAX,
+            hi: 0,
+        },
+        |e, &t| Span {
+            lo: e.lo.min(t),
+            hi: e.hi.max(t),
+        },
+    )
 }
 
 // The scale from the lowest value to the highest.

@@ -15,7 +15,7 @@ use Rattle.framesums.specs.Sums.{add_points, add_bins, add_frame, frame_sums}
 use Rattle.framesums.specs.Steps.{index_of}
 use Rattle.framesums.specs.Cases.{run}
 use Rattle.windows.specs.Windows.{padded_bins, bounds_window}
-use Rattle.traces.specs.Traces.{trace_of, sound_scans, row_asks, bounds_of, sound_axes, bounds_asks, window_by}
+use Rattle.traces.specs.Traces.{trace_of, sound_scans, row_asks, row_of, bounds_of, sound_axes, bounds_asks, window_by}
 
 -- bins of four TOF values each from 4 on, as many as are told
 abbrev scale : ℕ → TofScale
@@ -40,7 +40,7 @@ unfolding frame_sums add_frame add_bins add_points up_to bounds_window window_bi
 traces = refl
 
 abbrev by_row : ℕ → ℕ → ℕ → ℕ → ℕ → ℕ
-by_row row pad s t room = index_number max_reading run (row_asks run row pad s t room)
+by_row row pad s t room = index_number max_reading run (row_asks run (row_of row pad s t) room)
 
 -- One that is accepted, with reversed scans; then a row past 4,194,303, a pad past 65,535, a scan past 65,535 on either side, and one place too
 -- few.

@@ -1,5 +1,5 @@
 -- Retention traces: the readings of a window of an index, summed by frame, over all frames.
-use Rattle.std.specs.Prelude.{Bool, true, ◌&&◌, List, ℕ, leb, length, Float, Result}
+use Rattle.std.specs.Prelude.{Bool, ◌&&◌, List, ℕ, leb, length, Float, Result}
 use Rattle.refusal.specs.declared.Refusal.{Refusal}
 use Rattle.refusal.specs.Numbered.{says}
 use Rattle.limits.specs.Limits.{max_reading, last_row, max_count, max_scan, max_tof_bound}
@@ -7,11 +7,12 @@ use Rattle.tof.specs.declared.TofScale.{TofScale}
 use Rattle.tof.specs.Tof.{sound_step, sound_ends, agreeing}
 use Rattle.frameindex.specs.declared.numbers.Further.{Further}
 use Rattle.frameindex.specs.FrameIndex.{Index, frames}
-use Rattle.frameindex.specs.IndexNumber.{index_number, plainly, Front}
+use Rattle.frameindex.specs.IndexNumber.{index_number, met, Front}
 use Rattle.framesums.specs.declared.inner.Window.{Window}
 use Rattle.framesums.specs.Sums.{frame_sums}
 use Rattle.windows.specs.declared.inner.Bounds.{Bounds}
-use Rattle.windows.specs.Windows.{padded_bins, bounds_window}
+use Rattle.windows.specs.declared.inner.PaddedRow.{PaddedRow}
+use Rattle.windows.specs.Windows.{row_window, bounds_window}
 
 -- a sum for each frame, from the first on
 abbrev pub trace_of : Index → Window → List Float
@@ -24,8 +25,13 @@ unfoldable pub sound_scans : ℕ → ℕ → Bool
 sound_scans s t = leb s max_scan && leb t max_scan
 
 -- what a trace around a TOF row is asked besides its index: a row to 4,194,303 and a pad to 65,535, scans, and a place for each frame
-abbrev pub row_asks : Index → ℕ → ℕ → ℕ → ℕ → ℕ → Further
-row_asks ix row pad s t room = plainly (leb row last_row && leb pad max_count) (sound_scans s t) (leb (frames ix) room) true
+abbrev pub row_asks : Index → PaddedRow → ℕ → Further
+row_asks ix r room =
+    record met { values = leb r.row last_row && leb r.pad max_count; axes = sound_scans r.scan_lo r.scan_hi; room = leb (frames ix) room }
+
+-- a TOF row, the bins to take on either side of it, and scans
+abbrev pub row_of : ℕ → ℕ → ℕ → ℕ → PaddedRow
+row_of row pad s t = record { row = row; pad = pad; scan_lo = s; scan_hi = t }
 
 -- TOF bounds, the bins to take on either side of theirs, and scans
 abbrev pub bounds_of : ℕ → ℕ → ℕ → ℕ → ℕ → Bounds
@@ -38,14 +44,18 @@ sound_axes scale b = sound_ends scale && leb b.tof_lo max_tof_bound && leb b.tof
 -- what a trace by bounds is asked: a step from 1 to 65,536 and a pad to 65,535, axes, a place for each frame, and a scale whose numbers agree
 abbrev pub bounds_asks : Index → TofScale → Bounds → ℕ → Further
 bounds_asks ix scale b room =
-    plainly (sound_step scale.tof_step && leb b.pad max_count) (sound_axes scale b) (leb (frames ix) room) (agreeing scale)
+    record met {
+      values = sound_step scale.tof_step && leb b.pad max_count;
+      axes = sound_axes scale b;
+      room = leb (frames ix) room;
+      scale = agreeing scale;
+    }
 
 -- ---- what is left of a call, with readings to 2^32
 
 -- around a TOF row
-abbrev pub RowAnswered : Index → ℕ → ℕ → ℕ → ℕ → List Float → List Float → Result ℕ Refusal → Type 0
-RowAnswered ix row pad s t was is r =
-    Front (index_number max_reading ix (row_asks ix row pad s t (length was))) (trace_of ix (padded_bins row row pad s t)) was is (says r)
+abbrev pub RowAnswered : Index → PaddedRow → List Float → List Float → Result ℕ Refusal → Type 0
+RowAnswered ix p was is r = Front (index_number max_reading ix (row_asks ix p (length was))) (trace_of ix (row_window p)) was is (says r)
 
 -- by TOF bounds
 abbrev pub window_by : TofScale → Bounds → Window

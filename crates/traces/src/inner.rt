@@ -7,11 +7,12 @@ ghost use Rattle.frameindex.specs.FrameIndex.{frames};
 ghost use Rattle.frameindex.specs.IndexNumber.{index_number};
 ghost use Rattle.traces.specs.Traces.{trace_of, sound_scans, sound_axes, row_asks, bounds_asks};
 
+use frameindex::numbers::Further;
 use frameindex::{CheckedIndex, FrameIndex};
 use framesums::inner::Window;
 use refusal::Refusal;
 use tof::TofScale;
-use windows::inner::Bounds;
+use windows::inner::{Bounds, PaddedRow};
 
 #[tactic(auto, unfolding(crate::specs::Traces::sound_scans))]
 fn sound_scans(lo: u32, hi: u32) -> bool
@@ -35,24 +36,21 @@ fn sound_axes(scale: TofScale, b: Bounds) -> bool
 pub fn check_row<'a>(
     limit: u32,
     ix: &FrameIndex<'a>,
-    tof_row: u32,
-    bin_pad: u32,
-    scan_lo: u32,
-    scan_hi: u32,
+    r: PaddedRow,
     room: usize,
 ) -> Result<CheckedIndex<'a>, Refusal>
-    ensures number { number_in result ≡ index_number limit ix.now (row_asks ix.now tof_row bin_pad scan_lo scan_hi room) }
+    ensures number { number_in result ≡ index_number limit ix.now (row_asks ix.now r room) }
     ensures same { IfOk result (λ c. c ≡ ix.now) }
-    ensures held { OnOk result ((tof_row ≤ last_row) × (bin_pad ≤ max_count) × (frames ix.now ≤ room)) }
+    ensures held { OnOk result ((r.row ≤ last_row) × (r.pad ≤ max_count) × (frames ix.now ≤ room)) }
 {
     ix.check(
         limit,
-        frameindex::numbers::plain(
-            (tof_row <= limits::LAST_ROW) & (bin_pad <= limits::MAX_COUNT),
-            sound_scans(scan_lo, scan_hi),
-            ix.frames() <= room,
-            true,
-        ),
+        Further {
+            values: (r.row <= limits::LAST_ROW) & (r.pad <= limits::MAX_COUNT),
+            axes: sound_scans(r.scan_lo, r.scan_hi),
+            room: ix.frames() <= room,
+            ..Further::MET
+        },
     )
 }
 
@@ -71,12 +69,13 @@ pub fn check_bounds<'a>(
 {
     ix.check(
         limit,
-        frameindex::numbers::plain(
-            tof::inner::sound_step(scale.tof_step) & (b.pad <= limits::MAX_COUNT),
-            sound_axes(scale, b),
-            ix.frames() <= room,
-            tof::inner::agrees(scale),
-        ),
+        Further {
+            values: tof::inner::sound_step(scale.tof_step) & (b.pad <= limits::MAX_COUNT),
+            axes: sound_axes(scale, b),
+            room: ix.frames() <= room,
+            scale: tof::inner::agrees(scale),
+            ..Further::MET
+        },
     )
 }
 

@@ -7,31 +7,20 @@ ghost use Rattle.traces.specs.Traces.{RowAnswered, BoundsAnswered};
 
 use frameindex::FrameIndex;
 use refusal::Refusal;
-use tof::TofScale;
-use windows::inner::Bounds;
+use tof::{CheckedScale, TofScale};
+use windows::inner::{Bounds, PaddedRow};
 
 // Puts a sum for each frame to the front of `out`, of the readings with scans from scan_lo to scan_hi and with bins around a TOF row, as
-// far as bin_pad, and answers how many they are. Or refuses and leaves `out` as it is.
+// far as the pad, and answers how many they are. Or refuses and leaves `out` as it is.
 pub fn rt_trace_for_im_peak(
     ix: &FrameIndex,
-    tof_row: u32,
-    bin_pad: u32,
-    scan_lo: u32,
-    scan_hi: u32,
+    r: PaddedRow,
     out: &mut [f32],
 ) -> Result<usize, Refusal>
-    ensures { RowAnswered ix.now tof_row bin_pad scan_lo scan_hi out.old out.new result }
+    ensures { RowAnswered ix.now r out.old out.new result }
 {
-    let ix = inner::check_row(
-        limits::MAX_READING,
-        ix,
-        tof_row,
-        bin_pad,
-        scan_lo,
-        scan_hi,
-        out.len(),
-    )?;
-    let w = windows::inner::padded_bins(tof_row, tof_row, bin_pad, scan_lo, scan_hi);
+    let ix = inner::check_row(limits::MAX_READING, ix, r, out.len())?;
+    let w = windows::inner::row_window(r);
     Ok(inner::put_trace(&ix, w, out))
 }
 
@@ -45,6 +34,6 @@ pub fn rt_trace_for_im_peak_by_bounds(
     ensures { BoundsAnswered ix.now scale b out.old out.new result }
 {
     let ix = inner::check_bounds(limits::MAX_READING, ix, scale, b, out.len())?;
-    let w = windows::inner::bounds_window(scale, b);
+    let w = windows::inner::bounds_window(CheckedScale::of(scale), b);
     Ok(inner::put_trace(&ix, w, out))
 }

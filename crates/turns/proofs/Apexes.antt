@@ -9,13 +9,13 @@ use borrow.Author.Tests.{ltb-true, ltb-false, lt-ltb, le-ltb, le-leb, lt-leb}
 use lib.Dec.{ltb}
 use lib.ListN.{length, get_or-eq_default}
 use lib.Ieee.{Float, nan, lt, le, eq}
-use Rattle.refusal.proofs.Bools.{and-false}
 use Rattle.numeric.specs.Arith.{at}
 use Rattle.numeric.specs.Plain.{word_in, AllPlain}
 use Rattle.numeric.proofs.Patterns.{lt-bits, le-bits}
 use Rattle.apex.specs.Apex.{is_candidate, candidates_to, candidates}
 use Rattle.apex.proofs.Candidates.{one_more, none_more}
 use Rattle.turns.specs.Turns.{turn, Turning, apexes_of}
+use Rattle.std.proofs.Math.Bool.{and-false}
 
 -- ---- one sample
 -- no candidate where the row falls to it, nor where it rises behind it, nor at the end

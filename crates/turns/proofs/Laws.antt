@@ -10,7 +10,6 @@ use lib.Dec.{ltb, eqb}
 use lib.ListN.{length, set, length-set}
 use lib.Seq.{get_or-set_same, get_or-set_other}
 use lib.Ieee.{Float}
-use mir.Val.{bool_byte}
 use Rattle.numeric.specs.Plain.{word_in}
 use Rattle.turns.specs.Turns.{turn, Turning}
 
@@ -188,8 +187,3 @@ ends-down {y} {turns} {j} {i} g e h r =
     let z : turn (set turns j i) (2 * m) ≡ i = rw (← d) (get_or-set_same turns j i 0 (omega arith)) in
     rw (← e)
     (shaped m (rw (← d) (commits i g.ways (rw g.parity g.way) g.ahead (omega arith))) (rw z (λ k l q. absurd (omega arith))) (rw z (omega arith)) (rw length-set (omega arith)))
-
--- a test as a number
-pub as_number : (b : Bool) → bool_byte b ≡ cond b 1 0
-as_number true = refl
-as_number false = refl

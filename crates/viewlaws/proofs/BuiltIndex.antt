@@ -22,8 +22,9 @@ use Rattle.frameview.specs.declared.numbers.Room.{Room}
 use Rattle.frameview.specs.Answer.{Frame, bins_of, view_number}
 use Rattle.frameview.proofs.ViewLaws.{none-for}
 use Rattle.viewlaws.specs.BuiltIndex.{no_frames, with_frame, with_frames, Accepted, Run, Usable, FrameUsable, RunUsable, RunSeen, AloneUsable}
-use Rattle.viewlaws.proofs.Kept.{view-rises, view-most, up-to-append, up-to-at, up-to-map}
+use Rattle.viewlaws.proofs.Kept.{view-rises, view-most, up-to-append, up-to-map}
 use Rattle.viewlaws.proofs.Joined.{climbs-snoc, climbs-append, seam, offsets-front, offsets-climb, frames-snoc, range-append, range-map}
+use Rattle.params.proofs.Laws.{up-to-at}
 
 -- ---- what a frame has that no number refuses
 

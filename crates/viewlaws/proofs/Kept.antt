@@ -152,12 +152,6 @@ pub up-to-one : (a x : ℕ) → x ≤ a → all_up_to a (x ∷ []) ≡ true
 unfolding all_up_to
 up-to-one a x h = rw (le-leb x a h)
 
-pub up-to-at : (a : ℕ) (l : List ℕ) (p : ℕ) → all_up_to a l ≡ true → get_or l p 0 ≤ a
-unfolding all_up_to
-up-to-at a [] p e = omega arith
-up-to-at a (x ∷ xs) zero e = leb-true x a (both (leb x a) e).0
-up-to-at a (x ∷ xs) (suc p) e = up-to-at a xs p (both (leb x a) e).1
-
 pub up-to-map : (a : ℕ) (f : ℕ → ℕ) (l : List ℕ) → ((p : ℕ) → f p ≤ a) → all_up_to a (map f l) ≡ true
 unfolding all_up_to
 up-to-map a f [] h = refl

@@ -4,11 +4,16 @@ use Rattle.record.specs.declared.ImPeak1D.{ImPeak1D}
 use Rattle.tof.specs.declared.TofScale.{TofScale}
 use Rattle.tof.specs.Tof.{window_bins}
 use Rattle.framesums.specs.declared.inner.Window.{Window}
+use Rattle.windows.specs.declared.inner.PaddedRow.{PaddedRow}
 
 -- the bins from lo to hi and `pad` more on either side, none below bin 0, with scans from s to t; bins past those of the scale are in
 -- the window like others
 abbrev pub padded_bins : ℕ → ℕ → ℕ → ℕ → ℕ → Window
 padded_bins lo hi pad s t = record { bin_lo = lo - pad; bin_hi = hi + pad; scan_lo = s; scan_hi = t }
+
+-- those around a TOF row
+abbrev pub row_window : PaddedRow → Window
+row_window r = padded_bins r.row r.row r.pad r.scan_lo r.scan_hi
 
 -- the bins of TOF bounds, which may come in either order, padded
 unfoldable pub bounds_window : TofScale → ℕ → ℕ → ℕ → ℕ → ℕ → Window

@@ -1,12 +1,20 @@
 // Windows for values that a caller has checked.
 ghost use Rattle.std.specs.Prelude.{◌≡◌, ◌≤◌, ◌+◌};
 ghost use Rattle.limits.specs.Limits.{max_count};
-ghost use Rattle.tof.specs.Tof.{Sound};
-ghost use Rattle.windows.specs.Windows.{padded_bins, bounds_window, peak_window};
+ghost use Rattle.windows.specs.Windows.{padded_bins, row_window, bounds_window, peak_window};
 
 use framesums::inner::Window;
 use record::ImPeak1D;
-use tof::TofScale;
+use tof::CheckedScale;
+
+// A TOF row, the bins to take on either side of it, and scans.
+#[derive(Clone, Copy)]
+pub struct PaddedRow {
+    pub row: u32,
+    pub pad: u32,
+    pub scan_lo: u32,
+    pub scan_hi: u32,
+}
 
 // TOF bounds, the bins to take on either side of theirs, and scans.
 #[derive(Clone, Copy)]
@@ -31,19 +39,27 @@ pub fn padded_bins(lo: u32, hi: u32, pad: u32, scan_lo: u32, scan_hi: u32) -> Wi
     }
 }
 
+// The bins around a TOF row.
+pub fn row_window(r: PaddedRow) -> Window
+    requires { r.row + r.pad ≤ 4294967295 }
+    ensures { result ≡ row_window r }
+{
+    padded_bins(r.row, r.row, r.pad, r.scan_lo, r.scan_hi)
+}
+
 // The bins of TOF bounds, padded.
-pub fn bounds_window(scale: TofScale, b: Bounds) -> Window
-    requires { Sound scale × (b.pad ≤ max_count) }
-    ensures { result ≡ bounds_window scale b.tof_lo b.tof_hi b.pad b.scan_lo b.scan_hi }
+pub fn bounds_window(scale: CheckedScale, b: Bounds) -> Window
+    requires { b.pad ≤ max_count }
+    ensures { result ≡ bounds_window scale.scale b.tof_lo b.tof_hi b.pad b.scan_lo b.scan_hi }
 {
     let bins = tof::inner::window_bins(scale, b.tof_lo, b.tof_hi);
     padded_bins(bins.lo, bins.hi, b.pad, b.scan_lo, b.scan_hi)
 }
 
 // Those of a peak's bounds.
-pub fn peak_window(scale: TofScale, pad: u32, p: ImPeak1D) -> Window
-    requires { Sound scale × (pad ≤ max_count) }
-    ensures { result ≡ peak_window scale pad p }
+pub fn peak_window(scale: CheckedScale, pad: u32, p: ImPeak1D) -> Window
+    requires { pad ≤ max_count }
+    ensures { result ≡ peak_window scale.scale pad p }
 {
     bounds_window(
         scale,

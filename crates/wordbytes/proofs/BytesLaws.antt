@@ -13,6 +13,7 @@ use lib.Ieee.{nan, binary32, of_bits}
 use Rattle.numeric.specs.Arith.{at}
 use Rattle.wordbytes.specs.Bytes.{word_at, words_to, words_of, floats_of, bytes_of_word, bytes_of}
 use Rattle.wordbytes.specs.BytesLaws.{WordsBack, BytesBack}
+use Rattle.std.proofs.lemmas.List.{get_or-map}
 
 -- ---- the words of bytes
 
@@ -39,15 +40,10 @@ pub floats-length : (b : List ℕ) → length (floats_of b) ≡ length b / 4
 unfolding floats_of
 floats-length b = length-map (words_of b) (of_bits binary32) ∙ words-length b (length b / 4)
 
-map_get : {A B : Type 0} (f : A → B) (l : List A) (k : ℕ) (d : A) (e : B) → k < length l → get_or (map f l) k e ≡ f (get_or l k d)
-map_get f [] k d e h = absurd (omega arith)
-map_get f (a ∷ l) zero d e h = refl
-map_get f (a ∷ l) (suc k) d e h = map_get f l k d e (omega arith)
-
 pub float-get : (b : List ℕ) (k : ℕ) → k * 4 + 4 ≤ length b → at (floats_of b) k ≡ of_bits binary32 (word_at b k)
 unfolding floats_of
 float-get b k h =
-    map_get (of_bits binary32) (words_of b) k 0 nan (rw words-length (omega arith)) ∙ ap (of_bits binary32) (word-get b (length b / 4) k (omega arith))
+    get_or-map (of_bits binary32) (words_of b) k 0 nan (rw words-length (omega arith)) ∙ ap (of_bits binary32) (word-get b (length b / 4) k (omega arith))
 
 -- ---- the bytes of words
 

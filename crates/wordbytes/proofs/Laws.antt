@@ -2,22 +2,26 @@
 use mathlib.Core.Path.{◌≡◌, refl, sym, ap, ◌∙◌}
 use mathlib.Core.Bool.{Bool, true, false, not, ◌&&◌}
 use mathlib.Core.List.{List, [], ◌∷◌, ◌++◌, map, append_assoc, append-nil}
-use Prim.Native.Nat.{ℕ, suc, ◌+◌, ◌*◌, ◌/◌, ◌^◌, ◌-◌, ◌≤◌, ◌<◌}
+use Prim.Native.Nat.{ℕ, suc, ◌+◌, ◌*◌, ◌/◌, ◌^◌, ◌-◌, ◌≤◌, ◌<◌, zero}
 use native.Mathlib.Numerals.{add-one}
 use native.Mathlib.Omega.{arith}
 use borrow.Author.Tests.{le-leb, ltb-true, leb-true}
-use lib.Dec.{T, leb, ltb}
+use lib.Dec.{T, leb, ltb, lit<}
 use lib.ListN.{length, get_or, take, drop, set}
-use lib.Seq.{take_all, take-suc, take_at, drop_at, drop-cons, drop-drop, length-take-le, set_at, sets-eq, drop-length}
+use lib.Seq.{take_all, take-suc, take_at, drop_at, drop-cons, drop-drop, length-take-le, set_at, drop-length, get_or-take, get_or-drop}
 use lib.Ieee.{Float, binary32, of_bits, nan_bits}
 use Rattle.numeric.specs.Arith.{at}
 use Rattle.numeric.proofs.Patterns.{range_at, range-word}
 use Rattle.numeric.specs.Numeric.{in_range, all_in_range}
-use Rattle.numeric.proofs.Laws.{no_nan, and-true, and_assoc}
-use Rattle.refusal.proofs.Bools.{both, and-false}
+use Rattle.numeric.proofs.Laws.{no_nan}
+use Rattle.refusal.proofs.Bools.{both}
 use Rattle.params.specs.Params.{all_up_to, rising, rising_from}
-use Rattle.wordbytes.specs.Bytes.{floats_of, bytes_of_word, bytes_of, with_word}
+use Rattle.wordbytes.specs.Bytes.{floats_of, bytes_of_word, bytes_of, with_word, word_at, words_to}
 use Rattle.wordbytes.proofs.BytesLaws.{floats-length, bytes-append, bytes-length}
+use Rattle.std.proofs.Math.Bool.{and_assoc, and-true, and-false}
+use native.Mathlib.Nat.{zero-add, add-zero}
+use Rattle.std.specs.List.{fold, zip}
+use Rattle.std.specs.Simd.{first_chunks}
 
 -- ---- a buffer that is filled from the front
 pub fill-turn : {A : Type 0} (l d out : List A) (i : ℕ) (z v : A) → i < length l → i < length d → out ≡ take i l ++ drop i d → v ≡ get_or l i z
@@ -63,7 +67,7 @@ in-range-no-nan limit l k w g h m b e =
 pub up-to-snoc : (limit : ℕ) (ws : List ℕ) (w : ℕ) → all_up_to limit (ws ++ (w ∷ [])) ≡ (all_up_to limit ws && leb w limit)
 unfolding all_up_to
 up-to-snoc limit [] w = and-true _
-up-to-snoc limit (v ∷ ws) w = rw (up-to-snoc limit ws w) (and_assoc (leb v limit) (all_up_to limit ws) (leb w limit))
+up-to-snoc limit (v ∷ ws) w = rw (up-to-snoc limit ws w) (sym (and_assoc (leb v limit) (all_up_to limit ws) (leb w limit)))
 
 pub range_snoc : (limit : ℕ) (ws : List ℕ) (w : ℕ) → w < 2 ^ 32 → limit < 0x7f80_0000
     → all_in_range limit (map (of_bits binary32) (ws ++ (w ∷ []))) ≡ (all_in_range limit (map (of_bits binary32) ws) && leb w limit)
@@ -71,7 +75,7 @@ unfolding all_in_range
 range_snoc limit [] w h g = rw (range-word limit w h g) (and-true _)
 range_snoc limit (v ∷ ws) w h g =
     rw (range_snoc limit ws w h g)
-    (and_assoc (in_range limit (of_bits binary32 v)) (all_in_range limit (map (of_bits binary32) ws)) (leb w limit))
+    (sym (and_assoc (in_range limit (of_bits binary32 v)) (all_in_range limit (map (of_bits binary32) ws)) (leb w limit)))
 
 -- ---- whole lists, decoded into arrays
 pub decode-room : {A : Type 0} (b : List ℕ) (zeros : List A) → length b / 4 ≤ length zeros → length (take (length b / 4) zeros) * 4 ≤ length b
@@ -105,3 +109,63 @@ unfolding rising
 rising-up-to limit [] n e h r = absurd (omega arith)
 rising-up-to limit (s ∷ ss) n e h r =
     let k : n - 1 ≡ length ss = omega arith in rw k (rising-last limit s ss r).1
+
+-- ---- words as chunks of four bytes
+chunk-word : (b : List ℕ) (j : ℕ) → word_at (take 4 (drop (j * 4) b)) 0 ≡ word_at b j
+unfolding word_at
+chunk-word b j = rw (at_byte 0 (lit< tt), at_byte 1 (lit< tt), at_byte 2 (lit< tt), at_byte 3 (lit< tt), add-zero)
+  where
+    at_byte : (k : ℕ) → k < 4 → get_or (take 4 (drop (j * 4) b)) k 0 ≡ get_or b (j * 4 + k) 0
+    at_byte k h = get_or-take 4 (drop (j * 4) b) k 0 h ∙ get_or-drop (j * 4) b k 0
+
+words-suc : (b : List ℕ) (j : ℕ) → words_to b (suc j) ≡ words_to b j ++ (word_at b j ∷ [])
+unfolding words_to
+words-suc b j = refl
+
+chunks-from : (n j : ℕ) (b : List ℕ) → words_to b j ++ map (λ w. word_at w 0) (first_chunks 4 n (drop (j * 4) b)) ≡ words_to b (n + j)
+chunks-from zero j b = rw zero-add (append-nil (words_to b j))
+chunks-from (suc n) j b =
+    let m : suc j * 4 ≡ j * 4 + 4 = omega arith in
+    let e : suc n + j ≡ n + suc j = omega arith in
+    rw (e, chunk-word b j)
+    (sym (append_assoc (words_to b j) (word_at b j ∷ []) (map (λ w. word_at w 0) (first_chunks 4 n (drop 4 (drop (j * 4) b)))))
+    ∙ rw (drop-drop 4 (j * 4) b, ← m, ← words-suc b j) (chunks-from n (suc j) b))
+
+pub chunk-words : (n : ℕ) (b : List ℕ) → map (λ w. word_at w 0) (first_chunks 4 n b) ≡ words_to b n
+unfolding words_to
+chunk-words n b = rw add-zero at (chunks-from n 0 b)
+
+pub up-to-fold : (limit : ℕ) (f : List ℕ → ℕ) (ws : List (List ℕ)) (all : Bool)
+    → fold (λ (all : Bool) (w : List ℕ). all && leb (f w) limit) all ws ≡ (all && all_up_to limit (map f ws))
+unfolding all_up_to
+up-to-fold limit f [] all = sym (and-true all)
+up-to-fold limit f (w ∷ ws) all = up-to-fold limit f ws (all && leb (f w) limit) ∙ and_assoc all (leb (f w) limit) (all_up_to limit (map f ws))
+
+rising-from : (f : List ℕ → ℕ) (w : List ℕ) (ws : List (List ℕ)) (all : Bool)
+    → fold (λ (all : Bool) (p : List ℕ × List ℕ). all && ltb (f p.0) (f p.1)) all (zip (w ∷ ws) ws) ≡ (all && rising_from (f w) (map f ws))
+unfolding rising_from
+rising-from f w [] all = sym (and-true all)
+rising-from f w (v ∷ ws) all = rising-from f v ws (all && ltb (f w) (f v)) ∙ and_assoc all (ltb (f w) (f v)) (rising_from (f v) (map f ws))
+
+pub rises-none : (f : List ℕ → ℕ) (ws : List (List ℕ)) → length ws ≡ 0 → rising (map f ws) ≡ true
+unfolding rising
+rises-none f [] h = refl
+rises-none f (w ∷ ws) h = absurd (omega arith)
+
+pub rising-fold : (f : List ℕ → ℕ) (ws rest : List (List ℕ)) (w : List ℕ) → ws ≡ w ∷ rest
+    → fold (λ (all : Bool) (p : List ℕ × List ℕ). all && ltb (f p.0) (f p.1)) true (zip ws rest) ≡ rising (map f ws)
+unfolding rising
+rising-fold f ws rest w e = rw e (rising-from f w rest true)
+
+-- the words of bytes are words, and below the patterns of infinities and NaNs they are in range where their floats are
+pub word-fits : (b : List ℕ) (i : ℕ) → ((k : ℕ) → get_or b k 0 < 256) → word_at b i < 2 ^ 32
+unfolding word_at
+word-fits b i h = omega (arith, h (i * 4), h (i * 4 + 1), h (i * 4 + 2), h (i * 4 + 3))
+
+pub range-words : (limit : ℕ) (b : List ℕ) (n : ℕ) → ((k : ℕ) → get_or b k 0 < 256) → limit < 0x7f80_0000
+    → all_up_to limit (words_to b n) ≡ all_in_range limit (map (of_bits binary32) (words_to b n))
+unfolding words_to all_up_to all_in_range
+range-words limit b zero h g = refl
+range-words limit b (suc n) h g =
+    up-to-snoc limit (words_to b n) (word_at b n) ∙ ap (λ (t : Bool). t && leb (word_at b n) limit) (range-words limit b n h g)
+    ∙ sym (range_snoc limit (words_to b n) (word_at b n) (word-fits b n h) g)

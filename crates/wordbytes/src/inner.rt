@@ -1,5 +1,4 @@
-// Words and floats read from bytes, words written to bytes, and tests of words in bytes. Words in bytes are no slice of words, so the tests
-// read them at places; params has the same tests of a slice, which are a walk over it and need no place.
+// Words and floats read from bytes, words written to bytes, and tests of words in bytes, which are those that params has of a slice.
 ghost use Rattle.std.specs.Prelude.{◌≡◌, true, ◌++◌, ◌≤◌, ◌<◌, ◌+◌, ◌*◌, length, take, drop};
 ghost use Rattle.limits.specs.Limits.{max_reading};
 ghost use Rattle.numeric.specs.Numeric.{all_in_range};
@@ -13,6 +12,13 @@ pub fn word_at(b: &[u8], k: usize) -> u32
 {
     let i = k * 4;
     u32::from_le_bytes([b[i], b[i + 1], b[i + 2], b[i + 3]])
+}
+
+// The word of four bytes.
+fn word_of(w: &[u8; 4]) -> u32
+    ensures { result ≡ word_at w.now 0 }
+{
+    u32::from_le_bytes(*w)
 }
 
 // Writes a word to place k.
@@ -49,27 +55,24 @@ pub fn all_words_up_to(b: &[u8], limit: u32) -> bool
     ensures words { result ≡ all_up_to limit (words_of b.now) }
     ensures floats { limit < 0x7f80_0000 → result ≡ all_in_range limit (floats_of b.now) }
 {
-    let n = b.len() / 4;
-    let mut all = true;
-    for i in 0..n {
-        all = all & (word_at(b, i) <= limit);
-    }
-    all
+    let (words, _) = b.as_chunks::<4>();
+    words
+        .iter()
+        .fold(true, |all, w| all & (word_of(w) <= limit))
 }
 
 // Whether every word is above the one before it.
 pub fn is_rising(b: &[u8]) -> bool
     ensures { result ≡ rising (words_of b.now) }
 {
-    let n = b.len() / 4;
-    if n == 0 {
+    let (words, _) = b.as_chunks::<4>();
+    let Some((_, rest)) = words.split_first() else {
         return true;
-    }
-    let mut all = true;
-    for i in 1..n {
-        all = all & (word_at(b, i - 1) < word_at(b, i));
-    }
-    all
+    };
+    words
+        .iter()
+        .zip(rest)
+        .fold(true, |all, (last, w)| all & (word_of(last) < word_of(w)))
 }
 
 // Whether no word is above the limit, where it is known whether they rise: if so, the last is the highest.

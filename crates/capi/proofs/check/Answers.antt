@@ -9,18 +9,18 @@ use Rattle.byterows.specs.Call.{bytes_in}
 use Rattle.capi.proofs.Laws.{entry-is}
 use Rattle.capi.proofs.check.Goals as goal
 
-pub returns-then-not-whole : goal.returns-then-not-whole
-returns-then-not-whole c =
-    rw (entry-is, c.if-not-whole.true)
+pub returns-then-not-are_whole : goal.returns-then-not-are_whole
+returns-then-not-are_whole c =
+    rw (entry-is, ← c.are_whole.ensures, c.if-not-are_whole.true)
 
 pub returns-then-flag-is_past_four : goal.returns-then-flag-is_past_four
 returns-then-flag-is_past_four c =
     let grid_at : Grid = bytes_in c.args.call.now (floats_of c.args.weights.now) in
-    let is : number_in c.check-found.result ≡ grid_number grid_at c.args.rows (c.args.room / 4) c.args.call.now.cols = seen-number grid_at c.args.rows (c.args.room / 4) c.args.call.now.cols _ _ c.see-seen.ensures c.check-found.ensures in
-    rw (entry-is, c.if-not-whole.false, ← is, ← c.is_past_four.ensures, c.if-flag-is_past_four.true)
+    let is : number_in c.check-found.result ≡ grid_number grid_at c.args.rows (c.args.room / 4) c.args.call.now.terms.cols = seen-number grid_at c.args.rows (c.args.room / 4) c.args.call.now.terms.cols _ _ c.see-seen.ensures c.check-found.ensures in
+    rw (entry-is, ← c.are_whole.ensures, c.if-not-are_whole.false, ← is, ← c.is_past_four.ensures, c.if-flag-is_past_four.true)
 
 pub returns : goal.returns
 returns c =
     let grid_at : Grid = bytes_in c.args.call.now (floats_of c.args.weights.now) in
-    let is : number_in c.check-found.result ≡ grid_number grid_at c.args.rows (c.args.room / 4) c.args.call.now.cols = seen-number grid_at c.args.rows (c.args.room / 4) c.args.call.now.cols _ _ c.see-seen.ensures c.check-found.ensures in
-    rw (entry-is, c.if-not-whole.false, ← is, ← c.is_past_four.ensures, c.if-flag-is_past_four.false)
+    let is : number_in c.check-found.result ≡ grid_number grid_at c.args.rows (c.args.room / 4) c.args.call.now.terms.cols = seen-number grid_at c.args.rows (c.args.room / 4) c.args.call.now.terms.cols _ _ c.see-seen.ensures c.check-found.ensures in
+    rw (entry-is, ← c.are_whole.ensures, c.if-not-are_whole.false, ← is, ← c.is_past_four.ensures, c.if-flag-is_past_four.false)

@@ -29,11 +29,14 @@ returns-in_err-check-clause-answer c =
 pub overflow_cast-base : goal.overflow_cast-base
 overflow_cast-base c = let a = holds (goal.at.overflow_cast-base c).In_ok-check in record { fits = omega (arith, a.few) }
 
+pub of-s-requires : goal.of-s-requires
+of-s-requires c = (holds (goal.at.of-s-requires c).In_ok-check).sound
+
 pub put_view-requires : goal.put_view-requires
 put_view-requires c = let a = holds (goal.at.put_view-requires c).In_ok-check in
-    (a.sound, omega (arith, a.few), a.scans, a.readings, a.bins-room, a.offsets-room, a.scans-room, a.readings-room, omega (arith, a.few), a.keys-room, a.order-room, a.spare-room)
+    (omega (arith, a.few), a.scans, a.readings, a.bins-room, a.offsets-room, a.scans-room, a.readings-room, omega (arith, a.few), a.keys-room, a.order-room, a.spare-room)
 
 pub returns-clause-answer : goal.returns-clause-answer
 returns-clause-answer c = let at = (goal.at.returns-clause-answer c).In_ok-check in
     let p = c.put_view in
-    answered (frame_at at) (lent_at at) (lent_in p.new.view p.new.scratch) c.args.base _ p.result (none at) refl c.saturating_sub-last.ensures p.ensures.viewed p.ensures.keys p.ensures.order p.ensures.spare
+    answered (frame_at at) (lent_at at) (lent_in p.new.view p.new.scratch) c.args.base _ p.result (none at) refl c.saturating_sub-last.ensures (rw c.of-s.ensures at p.ensures.viewed) p.ensures.keys p.ensures.order p.ensures.spare

@@ -1,29 +1,64 @@
-use Rattle.std.proofs.Common.{sym, ◌∙◌, ◌<◌, length, arith}
-use Rattle.linefault.proofs.Laws.{err_or-ok, within-bad, within-last, within-next}
+use mathlib.Core.Path.{refl, sym, ◌∙◌}
+use Prim.Native.Nat.{◌<◌}
+use native.Mathlib.Omega.{arith}
+use lib.Dec.{eqb}
+use lib.ListN.{length, get_or}
+use Rattle.std.proofs.Common.{◌≡◌, rules, tests}
+use Rattle.std.proofs.lemmas.List.{length_push}
+use Rattle.std.proofs.lemmas.Iterator.Splits.{YieldsList-from_slice_split}
+use Rattle.std.proofs.lemmas.Iterator.Consumers.{YieldsList-turn, YieldsList-end}
+use Rattle.table.specs.Text.{comma, fields}
+use Rattle.table.proofs.Laws.{fields_split}
+use Rattle.linefault.proofs.Laws.{err_or-ok, seen-none, seen-room, seen-next, seen-bad, seen-all}
 use Rattle.linefault.proofs.count_fields.Goals as goal
+
+pub loop-text-init : goal.loop-text-init
+loop-text-init c = (refl, seen-none c.args.kind c.args.line.now)
+
+pub check_field-requires : goal.check_field-requires
+check_field-requires c =
+    let o = c.loop-text in
+    let line = c.args.line.now in
+    let t = YieldsList-turn (YieldsList-from_slice_split _ (λ b. eqb b comma) c.args.line.now (cc) (cc) (cc) (λ x b q k. search (rules, tests))) o.yielded o.text-iterator o.yielded_by c.next.result c.next.new.self c.in-Some.text c.in-Some.is c.next.ensures.steps in
+    let h : o.count < length (fields line) = rw (fields_split line) (omega (arith, t.0, o.invariant.0)) in
+    let e : c.in-Some.text.now ≡ get_or (fields line) o.count c.in-Some.text.now = rw (fields_split line, o.invariant.0) t.1 in
+    let r = seen-room c.args.kind line o.count o.at o.invariant.1 c.in-Some.text.now h e in
+    omega (arith, r)
+
+pub overflow_add-at-in-loop-text : goal.overflow_add-at-in-loop-text
+overflow_add-at-in-loop-text c =
+    let o = c.loop-text in
+    let line = c.args.line.now in
+    let t = YieldsList-turn (YieldsList-from_slice_split _ (λ b. eqb b comma) c.args.line.now (cc) (cc) (cc) (λ x b q k. search (rules, tests))) o.yielded o.text-iterator o.yielded_by c.next.result c.next.new.self c.in-Some.text c.in-Some.is c.next.ensures.steps in
+    let h : o.count < length (fields line) = rw (fields_split line) (omega (arith, t.0, o.invariant.0)) in
+    let e : c.in-Some.text.now ≡ get_or (fields line) o.count c.in-Some.text.now = rw (fields_split line, o.invariant.0) t.1 in
+    let r = seen-room c.args.kind line o.count o.at o.invariant.1 c.in-Some.text.now h e in
+    omega (arith, r)
 
 pub returns-in_err-check_field : goal.returns-in_err-check_field
 returns-in_err-check_field c =
-    let g = c.comma_from-to in
-    let l = c.loop-from in
-    let w = within-bad c.args.first l.field c.args.line.now l.from g.result l.invariant.0 g.ensures.value g.ensures.upper_bound (sym c.in_err-check_field.ensures) in
-    let e = err_or-ok c.from_residual.result _ c.from_residual.ensures.0 in
-    record { good = e.0 ∙ sym (l.invariant.2 ∙ w); count = e.1 }
-
-pub returns-then-to-line : goal.returns-then-to-line
-returns-then-to-line c =
-    let g = c.comma_from-to in
-    let l = c.loop-from in
-    let b = sym c.in_ok-check_field.ensures in
-    let w = within-last c.args.first l.field c.args.line.now l.from g.result l.invariant.0 g.ensures.value c.if-to-line.true b in
-    record { good = sym (l.invariant.2 ∙ w.0); count = omega (arith, l.invariant.3, w.1) }
-
-pub loop-from-preserved : goal.loop-from-preserved
-loop-from-preserved c =
-    let g = c.comma_from-to in
-    let l = c.loop-from in
+    let o = c.loop-text in
     let line = c.args.line.now in
-    let b = sym c.in_ok-check_field.ensures in
-    let z : g.result < length line = omega (arith, g.ensures.upper_bound, c.if-to-line.false) in
-    let w = within-next c.args.first l.field line l.from g.result l.invariant.0 g.ensures.value z b in
-    (omega arith, omega (arith, g.ensures.value, l.invariant.1), l.invariant.2 ∙ w.0, omega (arith, l.invariant.3, w.1))
+    let t = YieldsList-turn (YieldsList-from_slice_split _ (λ b. eqb b comma) c.args.line.now (cc) (cc) (cc) (λ x b q k. search (rules, tests))) o.yielded o.text-iterator o.yielded_by c.next.result c.next.new.self c.in-Some.text c.in-Some.is c.next.ensures.steps in
+    let h : o.count < length (fields line) = rw (fields_split line) (omega (arith, t.0, o.invariant.0)) in
+    let e : c.in-Some.text.now ≡ get_or (fields line) o.count c.in-Some.text.now = rw (fields_split line, o.invariant.0) t.1 in
+    let w = seen-bad c.args.kind line o.count o.at o.invariant.1 c.in-Some.text.now h e (sym c.in_err-check_field.ensures) in
+    let r = err_or-ok c.from_residual.result _ c.from_residual.ensures.0 in
+    record { good = r.0 ∙ sym w; count = r.1 }
+
+pub loop-text-preserved : goal.loop-text-preserved
+loop-text-preserved c =
+    let o = c.loop-text in
+    let line = c.args.line.now in
+    let t = YieldsList-turn (YieldsList-from_slice_split _ (λ b. eqb b comma) c.args.line.now (cc) (cc) (cc) (λ x b q k. search (rules, tests))) o.yielded o.text-iterator o.yielded_by c.next.result c.next.new.self c.in-Some.text c.in-Some.is c.next.ensures.steps in
+    let h : o.count < length (fields line) = rw (fields_split line) (omega (arith, t.0, o.invariant.0)) in
+    let e : c.in-Some.text.now ≡ get_or (fields line) o.count c.in-Some.text.now = rw (fields_split line, o.invariant.0) t.1 in
+    (omega (arith, o.invariant.0, length_push o.yielded c.in-Some.text), seen-next c.args.kind line o.count o.at o.invariant.1 c.in-Some.text.now h e (sym c.in_ok-check_field.ensures))
+
+pub returns : goal.returns
+returns c =
+    let o = c.loop-text in
+    let line = c.args.line.now in
+    let z = YieldsList-end (YieldsList-from_slice_split _ (λ b. eqb b comma) c.args.line.now (cc) (cc) (cc) (λ x b q k. search (rules, tests))) o.yielded o.text-iterator o.yielded_by c.next.result c.next.new.self c.in-None.is c.next.ensures.steps in
+    let n : o.count ≡ length (fields line) = rw (fields_split line) (o.invariant.0 ∙ z.1) in
+    record { good = sym (seen-all c.args.kind line o.count o.at o.invariant.1 n); count = n }

@@ -2,4 +2,4 @@ use Prim.Native.Nat.{◌-◌}
 use Rattle.bytegrid.proofs.sized.+detect_bytes.Given as goal
 
 abbrev pub decreases-detect_bytes : goal.decreases-detect_bytes
-decreases-detect_bytes l = l.to - l.from
+decreases-detect_bytes l = l.rows.end - l.rows.start

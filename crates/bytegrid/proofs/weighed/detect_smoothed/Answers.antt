@@ -96,7 +96,8 @@ detect_rows-requires c =
     let w = c.decode_floats in
     let e = w.auto.out ∙ length-take-le (length b / 4) _ fits in
     let is = take_at w.new.out _ (length b / 4) e ∙ decoded-floats b _ w.new.out fits w.ensures in
-    (subst (λ (l : List Float). Ready (bytes_in c.args.call.now l) c.args.from c.args.to (length c.args.out.now / 4)) (sym is) c.requires.0, c.requires.1, c.requires.2, c.requires.3)
+    let ready = subst (λ (l : List Float). Ready (bytes_in c.args.call.now l) c.args.rows.start c.args.rows.end (length c.args.out.now / 4)) (sym is) c.requires.0 in
+    record { rows = (length c.args.out.now / 4, omega arith, ready); lent = c.requires.1 }
 
 pub returns : goal.returns
 returns c =
@@ -105,4 +106,4 @@ returns c =
     let w = c.decode_floats in
     let e = w.auto.out ∙ length-take-le (length b / 4) _ fits in
     let is = take_at w.new.out _ (length b / 4) e ∙ decoded-floats b _ w.new.out fits w.ensures in
-    subst (λ (l : List Float). Done as_bytes (bytes_in c.args.call.now l) c.args.from c.args.to c.args.out.now c.detect_rows.new.out c.detect_rows.result) is c.detect_rows.ensures
+    subst (λ (l : List Float). Done as_bytes (bytes_in c.args.call.now l) c.args.rows.start c.args.rows.end c.args.out.now c.detect_rows.new.out c.detect_rows.result) is c.detect_rows.ensures.done

@@ -1,7 +1,10 @@
-use native.Mathlib.Omega.{arith}
-use Rattle.capi.proofs.StitchingLaws.{few-stitched}
+use Rattle.std.proofs.Common.{arith, rules, ◌∙◌}
+use Rattle.capi.proofs.StitchingLaws.{word-fits, word-is}
 use Rattle.capi.proofs.stitching.rubzolena_stitch_im_peaks.Goals as goal
 
-pub overflow_mul-result : goal.overflow_mul-result
-overflow_mul-result c = let told = c.stitch_told in
-    record { fits = omega (arith, few-stitched told.ensures.answer c.in-Ok.n c.in-Ok.is, c.well_formed.0) }
+pub word_of-requires : goal.word_of-requires
+word_of-requires c = word-fits c.stitch_told.result (c.stitch_told.ensures.answer _ _ c.then_some-params.ensures) (omega (arith, c.well_formed.0))
+
+pub returns : goal.returns
+returns c = let a = c.stitch_told.ensures.answer _ _ c.then_some-params.ensures in
+    record { answer = c.word_of.ensures ∙ word-is a; accepted = search rules; refused = search rules }

@@ -2,36 +2,31 @@ use mathlib.Core.Path.{refl, sym, ◌∙◌, ap}
 use Prim.Native.Nat.{◌*◌}
 use native.Mathlib.Omega.{arith}
 use lib.ListN.{length, drop, take}
-use lib.Seq.{take-take}
 use Rattle.keys.specs.Keys.{width_of}
 use Rattle.distinct.proofs.Laws.{Found, found}
+use Rattle.distinct.proofs.inner.by_order.Goals.{After-order_rows}
 use Rattle.distinct.proofs.inner.by_order.Goals as goal
 
 pub put_keys-requires : goal.put_keys-requires
 unfolding width_of
-put_keys-requires c = (c.requires.0, omega arith)
+put_keys-requires c = omega arith
+
+-- what the sorted places are
+left : (w : After-order_rows) → Found w.args.records.words.now w.args.records.count w.put_keys.new.table w.order_rows.new.order
+unfolding width_of
+left w =
+    let n = w.args.records.count in
+    found w.args.records.words.now n w.put_keys.new.table (drop (n * 1) w.args.ids.now) w.order_rows.new.order w.put_keys.ensures (rw w.requires.2 at w.order_rows.ensures.sorted)
 
 pub neighbours_differ-requires : goal.neighbours_differ-requires
-unfolding width_of
 neighbours_differ-requires c =
-    let left : Found c.args.list.now c.args.n c.put_keys.new.table (take c.args.n c.put_order.new.order) = let k = c.put_keys in
-    let x = c.args in
-    found x.list.now x.n k.new.table (drop (x.n * 1) x.ids.now) (take x.n c.put_order.new.order) k.ensures c.put_order.ensures in
-    λ i h. omega (arith, left.below i h, c.put_keys.auto.table)
+    let f = left (goal.at.neighbours_differ-requires c).After-order_rows in
+    λ p m. omega (arith, f.below p m, c.put_keys.auto.table, c.requires.3)
 
 pub returns-then-neighbours_differ : goal.returns-then-neighbours_differ
-unfolding width_of
 returns-then-neighbours_differ c =
-    let left : Found c.args.list.now c.args.n c.put_keys.new.table (take c.args.n c.put_order.new.order) = let k = c.put_keys in
-    let x = c.args in
-    found x.list.now x.n k.new.table (drop (x.n * 1) x.ids.now) (take x.n c.put_order.new.order) k.ensures c.put_order.ensures in
-    let x = c.args in
-    let m = length x.to.now in
-    let f = left in record { distinct = sym c.if-neighbours_differ.true ∙ c.neighbours_differ.ensures ∙ f.tells; order = c.copy.ensures ∙ sym (take-take m x.n c.put_order.new.order c.requires.2) ∙ ap (take m) f.in_order }
+    let f = left (goal.at.returns-then-neighbours_differ c).After-order_rows in
+    record { distinct = sym c.if-neighbours_differ.true ∙ c.neighbours_differ.ensures ∙ f.tells; order = c.copy.ensures ∙ ap (take (length c.args.to.now)) f.in_order }
 
 pub returns : goal.returns
-unfolding width_of
-returns c =
-    let left : Found c.args.list.now c.args.n c.put_keys.new.table (take c.args.n c.put_order.new.order) = let k = c.put_keys in
-    let x = c.args in
-    found x.list.now x.n k.new.table (drop (x.n * 1) x.ids.now) (take x.n c.put_order.new.order) k.ensures c.put_order.ensures in record { distinct = sym c.if-neighbours_differ.false ∙ c.neighbours_differ.ensures ∙ left.tells; order = refl }
+returns c = record { distinct = sym c.if-neighbours_differ.false ∙ c.neighbours_differ.ensures ∙ (left (goal.at.returns c).After-order_rows).tells; order = refl }

@@ -1,38 +1,28 @@
-use mathlib.Core.Path.{sym, ◌∙◌, ap}
-use mathlib.Core.List.{map}
-use Prim.Native.Nat.{ℕ, ◌+◌, ◌<◌}
-use native.Mathlib.Omega.{arith}
-use native.Mathlib.Numerals.{add-one}
-use lib.ListN.{length, get_or, drop}
-use Rattle.distinct.specs.Distinct.{neighbours_differ, differ_from}
-use Rattle.distinct.proofs.Laws.{differ-none, rest-next, rest-none, differ-cons, differ_same}
+use mathlib.Core.Path.{◌∙◌}
+use mathlib.Core.Bool.{not}
+use lib.Dec.{eqb}
+use lib.ListN.{get_or}
+use Rattle.std.proofs.Common.{rules}
+use Rattle.std.proofs.lemmas.Iterator.{YieldsList-from_slice, YieldsList-from_zip}
+use Rattle.std.proofs.lemmas.Iterator.Adapters.{YieldsList-from_skip, serves_from_places}
+use Rattle.std.proofs.lemmas.Iterator.Search.{all_from_yields_List}
+use Rattle.ordering.proofs.Laws.{pairs-in}
+use Rattle.distinct.proofs.Laws.{pairs-differ}
 use Rattle.distinct.proofs.inner.neighbours_differ.Goals as goal
 
-pub returns-in_default : goal.returns-in_default
-returns-in_default c = sym (differ-none (λ p. get_or c.args.ids.now p 0) c.args.order.now c.in_default.ensures.cases)
-
-pub loop-place-init : goal.loop-place-init
-unfolding neighbours_differ
-loop-place-init c = rw c.in-Some.ensures.cases.0
-
-pub bounds-ids-place : goal.bounds-ids-place
-bounds-ids-place c = let i = c.loop-place.place-index in
-    let split = c.in-Some.ensures.cases in
-    let next : i + 1 < length c.args.order.now = omega (arith, split.1, c.loop-place-test.true) in
-    let inside : get_or c.args.order.now (i + 1) 0 < length c.args.ids.now = c.requires (i + 1) next in
-    rw (split.0, add-one) at inside
-
-pub returns-then-last-next : goal.returns-then-last-next
-returns-then-last-next c = let g : ℕ → ℕ = λ p. get_or c.args.ids.now p 0 in
-    let rest = c.in-Some.rest.now in
-    let k = c.loop-place.place-index in
-    sym (c.loop-place.invariant ∙ ap (differ_from c.loop-place.last) (rest-next g rest k c.loop-place-test.true) ∙ differ_same c.loop-place.last (g (get_or rest k 0)) (map g (drop (k + 1) rest)) c.if-last-next.true)
-
-pub loop-place-preserved : goal.loop-place-preserved
-loop-place-preserved c = let g : ℕ → ℕ = λ p. get_or c.args.ids.now p 0 in
-    let rest = c.in-Some.rest.now in
-    let k = c.loop-place.place-index in
-    c.loop-place.invariant ∙ ap (differ_from c.loop-place.last) (rest-next g rest k c.loop-place-test.true) ∙ differ-cons c.loop-place.last (g (get_or rest k 0)) (map g (drop (k + 1) rest)) c.if-last-next.false
+pub all-requires-clause-callable : goal.all-requires-clause-callable
+all-requires-clause-callable c =
+    serves_from_places
+    (YieldsList-from_zip {s = c.zip.result} (YieldsList-from_slice c.args.order.now (search rules)) (YieldsList-from_skip 1 (YieldsList-from_slice c.args.order.now (search rules)) (search rules)))
+    (λ x q k. search rules)
+    (λ x k h e.
+    let m = pairs-in c.args.order.now k (x.0.now, x.1.now) h e in
+    let a = c.requires x.0.now m.0 in
+    let b = c.requires x.1.now m.1 in search rules)
 
 pub returns : goal.returns
-returns c = sym (c.loop-place.invariant ∙ rest-none (λ p. get_or c.args.ids.now p 0) c.loop-place.last c.in-Some.rest.now c.loop-place.place-index (omega arith))
+returns c =
+    all_from_yields_List (λ y. not (eqb (get_or c.args.ids.now y.0 0) (get_or c.args.ids.now y.1 0))) c.all.new.self _ _ c.all.ensures.ran
+    (YieldsList-from_zip {s = c.zip.result} (YieldsList-from_slice c.args.order.now (search rules)) (YieldsList-from_skip 1 (YieldsList-from_slice c.args.order.now (search rules)) (search rules)))
+    (λ x b q k. search rules)
+    ∙ pairs-differ (λ p. get_or c.args.ids.now p 0) c.args.order.now

@@ -5,5 +5,5 @@ use Rattle.distinct.proofs.inner.put_by_identity.Goals as goal
 
 pub returns : goal.returns
 returns c = let p = c.put_first in
-    let n = c.args.n in
-    let words = c.args.list.now in record { distinct = p.ensures.distinct; order = put_front p.result (by_identity (peaks_of words n)) c.args.order.now p.new.to n c.requires.2 (order-length words n) p.ensures.order }
+    let n = c.args.records.count in
+    let words = c.args.records.words.now in record { distinct = p.ensures.distinct; order = put_front p.result (by_identity (peaks_of words n)) c.args.order.now p.new.to n c.requires.1 (order-length words n) p.ensures.order }

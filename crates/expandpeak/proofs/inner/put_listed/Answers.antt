@@ -4,8 +4,9 @@ use Rattle.rtrecord.specs.declared.RtLocalPeak.{RtLocalPeak}
 use Rattle.rtplace.specs.Placed.{placed}
 use Rattle.rtapex.specs.InTime.{local_peak_of}
 use Rattle.rtplaces.specs.Places.{index_at}
-use Rattle.expandpeak.proofs.Laws.{local-index, none-listed, one-listed}
+use Rattle.expandpeak.proofs.Laws.{none-listed, one-listed}
 use Rattle.expandpeak.proofs.inner.put_listed.Goals as goal
+use Rattle.rtapex.proofs.Laws.{local-index}
 
 pub loop-k-init : goal.loop-k-init
 loop-k-init c = let g = c.args in

@@ -10,5 +10,4 @@ returns-clause-put c = let g = c.args in
     let t = g.trace in
     let h = c.find_rt_apexes-n.ensures.found in
     let floor : c.effective.result ≡ floor_of g.e t.smoothed.now = c.effective.ensures ∙ ap (effective_f g.e.min_prom) c.robust_noise_mad-noise.ensures in
-    put-searched g.at.lo g.at.ids.now g.at.peak g.at.first g.e t.smoothed.now t.raw.now t.times.now _ floor h.apexes
-    (rw (length-take-le _ _ h.room) at c.put_listed.ensures)
+    put-searched g.at.lo g.at.ids.now g.at.peak g.at.first g.e t.smoothed.now t.raw.now t.times.now _ floor h.apexes (length-take-le _ _ h.room) c.put_listed.ensures

@@ -1,9 +1,12 @@
-use Rattle.std.proofs.Common.{sym, ◌∙◌, arith}
-use Rattle.expandtrace.proofs.Laws.{any_step, any-end}
+use Rattle.std.proofs.Common.{◌||◌, ◌∙◌, false, rules, tests}
+use Rattle.std.specs.Float.Ieee.{lt}
+use Rattle.std.proofs.lemmas.Iterator.{YieldsList-from_slice}
+use Rattle.std.proofs.lemmas.Iterator.Consumers.{fold_from_yields_List}
+use Rattle.numeric.specs.Arith.{𝟎}
+use Rattle.expandtrace.proofs.Laws.{any-fold}
 use Rattle.expandtrace.proofs.inner.any_above.Goals as goal
 
-pub loop-v-preserved : goal.loop-v-preserved
-loop-v-preserved c = c.loop-v.invariant ∙ any_step c.args.x.now c.loop-v.v-index c.loop-v.any (omega arith)
-
 pub returns : goal.returns
-returns c = sym (c.loop-v.invariant ∙ any-end c.args.x.now c.loop-v.v-index c.loop-v.any (omega arith))
+returns c =
+    fold_from_yields_List _ (λ any v. any || lt 𝟎 v) _ _ c.fold.ensures.ran (YieldsList-from_slice c.args.x.now cc) (λ any v b q k. search (rules, tests))
+    ∙ any-fold c.args.x.now false

@@ -1,13 +1,11 @@
-use Rattle.std.proofs.Common.{sym, ◌∙◌, arith}
-use Rattle.fallback.proofs.Laws.{least_step, least-end}
-use Rattle.fallback.proofs.inner.least_of.Goals.{then-v-m, else-v-m}
+use Rattle.std.proofs.Common.{◌∙◌, cond, rules, tests}
+use Rattle.std.specs.Float.Ieee.{lt}
+use Rattle.std.proofs.lemmas.Iterator.{YieldsList-from_slice}
+use Rattle.std.proofs.lemmas.Iterator.Consumers.{fold_from_yields_List}
+use Rattle.fallback.proofs.Laws.{least-fold}
 use Rattle.fallback.proofs.inner.least_of.Goals as goal
 
-pub loop-v-preserved : goal.loop-v-preserved
-loop-v-preserved c =
-    c.loop-v.invariant
-    ∙ least_step c.args.y.now c.loop-v.v-index c.loop-v.m c.if-v-m.m (omega arith)
-    (elim c.if-v-m.branch [ then-v-m w ↦ rw (w.if-v-m.true, w.m-is) | else-v-m w ↦ rw (w.if-v-m.false, w.m-is) ])
-
 pub returns : goal.returns
-returns c = sym (c.loop-v.invariant ∙ least-end c.args.y.now c.loop-v.v-index c.loop-v.m (omega arith))
+returns c =
+    fold_from_yields_List _ (λ m v. cond (lt v m) v m) _ _ c.fold.ensures.ran (YieldsList-from_slice c.args.y.now cc) (λ m v b q k. search (rules, tests))
+    ∙ rw c.float_of-infinity.ensures (least-fold c.args.y.now _)

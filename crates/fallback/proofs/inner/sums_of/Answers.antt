@@ -1,9 +1,11 @@
-use Rattle.std.proofs.Common.{sym, ◌∙◌, arith}
-use Rattle.fallback.proofs.Laws.{sums-step, sums-end}
+use Rattle.std.proofs.Common.{◌∙◌, rules, tests}
+use Rattle.std.proofs.lemmas.Iterator.{YieldsList-from_slice}
+use Rattle.std.proofs.lemmas.Iterator.Consumers.{YieldsList-from_enumerate, fold_from_yields_List}
+use Rattle.numeric.specs.Arith.{◌⊕◌, ◌⊗◌, index_f}
+use Rattle.fallback.proofs.Laws.{sums-fold}
 use Rattle.fallback.proofs.inner.sums_of.Goals as goal
 
-pub loop-i-preserved : goal.loop-i-preserved
-loop-i-preserved c = rw c.of_index.ensures (c.loop-i.invariant ∙ sums-step c.args.y.now c.loop-i.i c.loop-i.mass c.loop-i.moment (omega arith))
-
 pub returns : goal.returns
-returns c = sym (c.loop-i.invariant ∙ sums-end c.args.y.now c.loop-i.i c.loop-i.mass c.loop-i.moment (omega arith))
+returns c =
+    fold_from_yields_List _ (λ s p. record { mass = s.mass ⊕ p.1; moment = s.moment ⊕ index_f p.0 ⊗ p.1 }) _ _ c.fold.ensures.ran (YieldsList-from_enumerate (YieldsList-from_slice c.args.y.now cc) (cc)) (λ s x b q k. search (rules, tests))
+    ∙ sums-fold c.args.y.now 0 _

@@ -1,15 +1,11 @@
-use Rattle.std.proofs.Common.{sym, ◌∙◌, arith}
-use Rattle.fallback.proofs.Laws.{top-higher, top-lower, top-end}
-use Rattle.fallback.proofs.inner.top_of.Goals.{then-v-height, else-v-height}
+use Rattle.std.proofs.Common.{◌∙◌, cond, rules, tests}
+use Rattle.std.specs.Float.Ieee.{lt}
+use Rattle.std.proofs.lemmas.Iterator.{YieldsList-from_slice}
+use Rattle.std.proofs.lemmas.Iterator.Consumers.{YieldsList-from_enumerate, fold_from_yields_List}
+use Rattle.fallback.proofs.Laws.{top-fold}
 use Rattle.fallback.proofs.inner.top_of.Goals as goal
 
-pub loop-i-preserved : goal.loop-i-preserved
-loop-i-preserved c = let y = c.args.y.now in
-    let i = c.loop-i.i in
-    elim c.if-v-height.branch [
-      | then-v-height w ↦ rw (w.height-is, w.place-is) (c.loop-i.invariant ∙ top-higher y i c.loop-i.place c.loop-i.height (omega arith) w.if-v-height.true)
-      | else-v-height w ↦ rw (w.height-is, w.place-is) (c.loop-i.invariant ∙ top-lower y i c.loop-i.place c.loop-i.height (omega arith) w.if-v-height.false)
-    ]
-
 pub returns : goal.returns
-returns c = sym (c.loop-i.invariant ∙ top-end c.args.y.now c.loop-i.i c.loop-i.place c.loop-i.height (omega arith))
+returns c =
+    fold_from_yields_List _ (λ t p. cond (lt t.height p.1) (record { place = p.0; height = p.1 }) t) _ _ c.fold.ensures.ran (YieldsList-from_enumerate (YieldsList-from_slice c.args.y.now cc) (cc)) (λ s x b q k. search (rules, tests))
+    ∙ top-fold c.args.y.now 0 _

@@ -1,9 +1,9 @@
 use Rattle.std.proofs.Common.{Bool, ◌&&◌, ◌+◌, length, get_or, drop, sym, ap, ◌∙◌, arith}
-use Rattle.numeric.proofs.Laws.{and-true, and_assoc}
 use Rattle.params.specs.Params.{rising}
 use Rattle.frameindex.specs.FrameIndex.{frames_rise_from, bins_between}
 use Rattle.frameindex.proofs.Laws.{climbs-next, frames-step, frames-end}
 use Rattle.frameindex.proofs.inner.frames_rise.Goals as goal
+use Rattle.std.proofs.Math.Bool.{and_assoc, and-true}
 
 pub rises-all-requires : goal.rises-all-requires
 rises-all-requires c = let h = climbs-next (length c.args.bins.now) c.loop-to.from c.in-Some.rest.now c.loop-to.to-index c.loop-to.invariant.0 (omega arith) in (h.0, h.1)
@@ -19,7 +19,7 @@ loop-to-preserved c = let bins = c.args.bins.now in
       rw c.rises-all.ensures
           (c.loop-to.invariant.1
           ∙ ap (λ (b : Bool). all && b) (frames-step bins from rest i (omega arith))
-          ∙ and_assoc all (rising (bins_between bins from to)) (frames_rise_from bins to (drop (i + 1) rest))),
+          ∙ sym (and_assoc all (rising (bins_between bins from to)) (frames_rise_from bins to (drop (i + 1) rest)))),
     )
 
 pub returns : goal.returns

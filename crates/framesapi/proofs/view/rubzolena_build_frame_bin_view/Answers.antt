@@ -1,5 +1,4 @@
-use Rattle.std.proofs.Common.{rules, ◌∙◌}
-use Rattle.framesapi.proofs.ViewWords.{view-fits, view-word}
+use Rattle.framesapi.proofs.ViewWords.{view-fits}
 use Rattle.framesapi.proofs.view.rubzolena_build_frame_bin_view.Goals as goal
 
 pub word_of-requires : goal.word_of-requires

@@ -8,4 +8,4 @@ use Rattle.grouping.proofs.Laws.{Begun}
 use Rattle.grouping.proofs.inner.group_end.Given as goal
 
 abbrev pub invariant-loop-k : goal.invariant-loop-k
-invariant-loop-k l = (ps : List ImPeak1D) (order : List ℕ) → length order ≡ l.n → Gathered ps l.sorted order → Begun l.rule l.params ps order l.i l.k l.bucket l.spans
+invariant-loop-k l = (ps : List ImPeak1D) (order : List ℕ) → length order ≡ l.sorted.count → Gathered ps l.sorted.words.now order → Begun l.rule l.params ps order l.i l.k l.bucket l.spans

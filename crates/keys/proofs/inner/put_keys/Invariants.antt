@@ -7,4 +7,4 @@ use Rattle.keys.specs.Keys.{key_table}
 use Rattle.keys.proofs.inner.put_keys.Given as goal
 
 abbrev pub invariant-loop-k : goal.invariant-loop-k
-invariant-loop-k l = l.table ≡ key_table l.rule (peaks_of l.list l.k) ++ drop (l.k * l.width) l.initial.table
+invariant-loop-k l = l.table ≡ key_table l.rule (peaks_of l.records.words.now l.k) ++ drop (l.k * l.width) l.initial.table

@@ -21,7 +21,7 @@ few-led : (n w l : ℕ) → w ≤ 8 → n * size ≤ l → n * w + n * 4 ≤ l
 few-led n w l h k = let e : n * (w + 4) ≤ n * size = mul-le-mul_left n (omega arith) in omega (arith, mul-add n w 4)
 
 pub put_keys-requires : goal.put_keys-requires
-put_keys-requires c = (c.requires.0, few (length c.args.order.now) (width_of c.args.rule) (length c.args.keys.now) (width-most c.args.rule) c.requires.2)
+put_keys-requires c = few (length c.args.order.now) (width_of c.args.rule) (length c.args.keys.now) (width-most c.args.rule) c.requires.2
 
 pub order_rows-requires : goal.order_rows-requires
 order_rows-requires c = let put = c.put_keys in

@@ -10,7 +10,6 @@ use Rattle.rowsearch.proofs.Laws.{next, none_yet}
 use Rattle.row.specs.Row.{peak_of}
 use Rattle.row.proofs.Laws.{read-inside, read_is}
 use Rattle.peaklines.specs.RowLines.{place_of, no_frames, printed_peak}
-use Rattle.row.specs.declared.inner.OnAxes.{OnAxes}
 use Rattle.peaklines.proofs.Laws.{lines-most, printed-none, next-printed, on-zeros, on_none}
 use Rattle.peaklines.proofs.inner.put_peak_lines.Goals as goal
 
@@ -24,7 +23,7 @@ peak_on-peak-requires c = let x = c.args in
     let t = c.requires.2.1 in
     let r = read-inside x.y.now x.y.now (replicate (length x.y.now) 0) x.found.now ks c.loop-j.j c.measured_at-a.result
     (next x.y.now x.y.now x.found.now ks c.loop-j.j (omega (arith, t.count)) t.stand) c.measured_at-a.ensures refl (length-replicate (length x.y.now) 0) (omega (arith, c.requires.0.short)) in
-    (r.low, r.high, refl, r.short, omega (arith, ap (λ (o : OnAxes). o.flag) c.no_axes-on.ensures))
+    (r.low, r.high, refl, r.short)
 
 pub append_line-at-requires : goal.append_line-at-requires
 append_line-at-requires c = let x = c.args in

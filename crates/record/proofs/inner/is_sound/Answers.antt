@@ -33,4 +33,4 @@ held c =
 pub returns : goal.returns
 unfolding with_peak
 returns c = c.sound_words.ensures
-    ∙ ap sound (ap (λ (l : List ℕ). peak_from l 0) c.put_words.ensures ∙ got-back (replicate size 0) 0 c.args.p (omega arith) (held (goal.at.returns c).Start))
+    ∙ ap sound (ap (λ (l : List ℕ). peak_from l 0) c.words_of.ensures ∙ got-back (replicate size 0) 0 c.args.p (omega arith) (held (goal.at.returns c).Start))

@@ -1,8 +1,16 @@
-use Rattle.record.proofs.Laws.{part-peak}
-use Rattle.record.specs.Record.{size}
-use mathlib.Core.Path.{◌∙◌}
-use Prim.Native.Nat.{◌*◌}
+use mathlib.Core.Path.{ap, ◌∙◌}
+use mathlib.Core.List.{List, []}
+use Prim.Native.Nat.{ℕ, ◌/◌}
+use native.Mathlib.Omega.{arith}
+use lib.ListN.{length, get_or}
+use Rattle.record.specs.Record.{size, peak_from}
+use Rattle.record.proofs.Laws.{chunk-is, own-chunk}
 use Rattle.record.proofs.inner.peak_at.Goals as goal
 
 pub returns : goal.returns
-returns c = c.first_peak.ensures ∙ part-peak c.args.list.now (c.args.k * size) c.requires
+returns c =
+    let l = c.args.list.now in
+    let k = c.args.k in
+    c.peak_from.ensures
+    ∙ ap (λ (w : List ℕ). peak_from w 0) (ap (λ (ws : List (List ℕ)). get_or ws k []) c.as_chunks.ensures.front ∙ chunk-is (length l / size) k l (omega (arith, c.requires)))
+    ∙ own-chunk l k

@@ -6,5 +6,5 @@ use Rattle.record.proofs.inner.sound_options.Goals as goal
 
 pub returns : goal.returns
 unfolding sound_options peak_from
-returns c = let k = c.shared_slice_known-3-1.given in
-    rw (range-word max_mobility _ (k 16).fits (omega arith), range-word max_mobility _ (k 17).fits (omega arith))
+returns c = let k = c.fits-w in
+    rw (c.as_slice-w.ensures, range-word max_mobility _ (k 16) (omega arith), range-word max_mobility _ (k 17) (omega arith))

@@ -7,5 +7,5 @@ use Rattle.record.proofs.inner.sound_shape.Goals as goal
 
 pub returns : goal.returns
 unfolding sound_shape peak_from
-returns c = let k = c.shared_slice_known-9-1.given in
-    rw (range-word max_height _ (k 18).fits (omega arith), range-word max_height _ (k 19).fits (omega arith), range-word max_height _ (k 20).fits (omega arith), places-words _ _ _ (k 21).fits (k 22).fits, range-word max_area _ (k 24).fits (omega arith), offset_word _ (k 25).fits)
+returns c = let k = c.fits-w in
+    rw (c.as_slice-w.ensures, range-word max_height _ (k 18) (omega arith), range-word max_height _ (k 19) (omega arith), range-word max_height _ (k 20) (omega arith), places-words _ _ _ (k 21) (k 22), range-word max_area _ (k 24) (omega arith), offset_word _ (k 25))

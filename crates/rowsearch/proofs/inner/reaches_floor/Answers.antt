@@ -1,20 +1,14 @@
-use lib.Ieee.{le}
-use Rattle.numeric.specs.Arith.{at, 𝟎}
-use Rattle.rowsearch.proofs.Laws.{some, highest-reaches, zero-no-nan, some-step, some_end, or_assoc}
-use mathlib.Core.Path.{sym, ◌∙◌}
-use Prim.Native.Nat.{◌+◌}
-use native.Mathlib.Omega.{arith}
-use lib.ListN.{drop}
+use Rattle.std.proofs.Common.{◌≡◌, ◌||◌, not, refl, sym, subst, ◌∙◌, rules}
+use lib.Ieee.{lt, le}
+use Rattle.numeric.specs.Arith.{𝟎}
+use Rattle.numeric.proofs.Laws.{fold-any}
+use Rattle.numeric.proofs.Patterns.{zero_number}
+use Rattle.rowsearch.proofs.Laws.{some, highest-reaches}
 use Rattle.rowsearch.proofs.inner.reaches_floor.Goals as goal
 
-pub loop-reading-init : goal.loop-reading-init
-loop-reading-init c = (highest-reaches _ 𝟎 _ zero-no-nan)
-
-pub loop-reading-preserved : goal.loop-reading-preserved
-loop-reading-preserved c = let z = c.args.z.now in
-    let floor = c.args.floor in
-    let i = c.loop-reading.reading-index in
-    (c.loop-reading.invariant ∙ rw (some-step floor z i (omega arith)) (sym (or_assoc c.loop-reading.any (le floor (at z i)) (some floor (drop (i + 1) z)))))
-
 pub returns : goal.returns
-returns c = sym (c.loop-reading.invariant ∙ some_end c.args.floor c.args.z.now c.loop-reading.reading-index c.loop-reading.any (omega arith))
+unfolding some
+returns c = let floor = c.args.floor in
+    subst (λ l. c.fold.result ≡ (not (lt 𝟎 floor) || some floor l)) c.iter.ensures.rest
+    (fold-any (le floor) (some floor) (λ v vs. refl) refl _ _ (λ a v b f' k. search rules) c.iter.result _ _ c.fold.ensures.ran)
+    ∙ sym (highest-reaches floor 𝟎 c.args.z.now zero_number)

@@ -5,8 +5,9 @@ use Rattle.digits.specs.Sorted.{row, up_to, sorted_by}
 use Rattle.digits.proofs.SortedLaws.{sort-length}
 use Rattle.chosen.specs.Chosen.{passing}
 use Rattle.rtplaces.specs.Places.{wide_at, by_time, chosen_places, with_shares, listed_places}
-use Rattle.rtplaces.proofs.Laws.{below_all, filled-front, some_below, some-few, chosen-places, chosen-places-few, shares-places, times-sorted}
+use Rattle.rtplaces.proofs.Laws.{below_all, some_below, some-few, chosen-places, chosen-places-few, shares-places, times-sorted}
 use Rattle.rtsearch.proofs.inner.list_apexes.Goals as goal
+use Rattle.numeric.proofs.Lists.{filled-front}
 
 pub choose_places-c-requires : goal.choose_places-c-requires
 choose_places-c-requires c = let s = c.args in

@@ -1,83 +1,69 @@
 use mathlib.Core.Path.{refl, sym, ◌∙◌}
-use Rattle.table.specs.Sizes.{max_fields}
-use Rattle.table.proofs.Laws.{read-start, read-digit, read-comma, read-last, bad-comma, bad-other, bad_last, rest-stays, rest-stays-set, end-room, go-on-room, digits-bound, digits_more, bad-answer, row-answer}
-use lib.ListN.{length-set}
 use Prim.Native.Nat.{◌<◌}
 use native.Mathlib.Omega.{arith}
-use lib.ListN.{get_or, set}
-use Rattle.table.proofs.inner.parse_row.Goals.{then-b-eq44+else-not-may_end, else-b-eq44+else-not-may_go_on}
+use lib.Dec.{eqb}
+use lib.ListN.{length, get_or, length-set}
+use Rattle.std.proofs.Common.{◌≡◌, rules, tests}
+use Rattle.std.proofs.lemmas.Iterator.Splits.{YieldsList-from_slice_split}
+use Rattle.std.proofs.lemmas.Iterator.Consumers.{YieldsList-turn, YieldsList-end}
+use Rattle.std.proofs.lemmas.List.{length_push}
+use Rattle.table.specs.Sizes.{max_number}
+use Rattle.table.specs.Text.{comma, fields}
+use Rattle.table.proofs.Laws.{fields_split, got-none, got-next, got-bad, got-wide, got-all, got-rest, no-number, the-number, bad-answer, row-answer}
 use Rattle.table.proofs.inner.parse_row.Goals as goal
 
-pub loop-b-init : goal.loop-b-init
-loop-b-init c = (omega arith, lib.Dec.lit< tt, omega arith, refl, read-start c.args.line.now c.args.row.now)
+pub loop-field-init : goal.loop-field-init
+loop-field-init c = (refl, refl, got-none c.args.line.now c.args.row.now)
 
-pub returns-then-not-may_end : goal.returns-then-not-may_end
-returns-then-not-may_end c = let o = c.loop-b in
+pub returns-then-count-eq-MAX_FIELDS : goal.returns-then-count-eq-MAX_FIELDS
+returns-then-count-eq-MAX_FIELDS c =
+    let o = c.loop-field in
+    let i = o.invariant in
     let line = c.args.line.now in
     let row = c.args.row.now in
-    let t = bad-answer line row o.row
-    (bad-comma line row o.row o.value o.digits o.count o.b-index o.invariant.4 c.requires (omega arith) c.if-b-eq44.true (sym c.may_end.ensures ∙ c.if-not-may_end.true))
-    (rest-stays line row o.row o.value o.digits o.count o.b-index o.invariant.4 c.requires o.invariant.2) in
-    record { text = t.0; front = t.1.0; rest = t.1.1 }
+    let t = YieldsList-turn (YieldsList-from_slice_split _ (λ b. eqb b comma) c.args.line.now (cc) (cc) (cc) (λ x b q k. search (rules, tests))) o.yielded o.field-iterator o.yielded_by c.next.result c.next.new.self c.in-Some.field c.in-Some.is c.next.ensures.steps in
+    let h : o.count < length (fields line) = rw (fields_split line) (omega (arith, t.0, i.0)) in
+    let e : c.in-Some.field.now ≡ get_or (fields line) o.count c.in-Some.field.now = rw (fields_split line, i.0) t.1 in
+    let a = bad-answer line row o.row (got-wide line row o.row o.count i.2 h c.if-count-eq-MAX_FIELDS.true) (got-rest line row o.row o.count i.2) in
+    record { text = a.0; front = a.1.0; rest = a.1.1 }
 
-pub with_digit-value-requires : goal.with_digit-value-requires
-with_digit-value-requires c = let r = go-on-room c.loop-b.digits _ (sym c.may_go_on.ensures ∙ c.if-not-may_go_on.false) in
-    let d : c.loop-b.digits < 8 = r.2 in
-    (digits-bound c.loop-b.value c.loop-b.digits 7 c.loop-b.invariant.1 (omega arith), r.0)
-
-pub returns-then-not-may_go_on : goal.returns-then-not-may_go_on
-returns-then-not-may_go_on c = let o = c.loop-b in
+pub returns-in_err-number : goal.returns-in_err-number
+returns-in_err-number c =
+    let o = c.loop-field in
+    let i = o.invariant in
     let line = c.args.line.now in
     let row = c.args.row.now in
-    let t = bad-answer line row o.row
-    (bad-other line row o.row o.value o.digits o.count o.b-index o.invariant.4 c.requires (omega arith) c.if-b-eq44.false (sym c.may_go_on.ensures ∙ c.if-not-may_go_on.true))
-    (rest-stays line row o.row o.value o.digits o.count o.b-index o.invariant.4 c.requires o.invariant.2) in
-    record { text = t.0; front = t.1.0; rest = t.1.1 }
+    let t = YieldsList-turn (YieldsList-from_slice_split _ (λ b. eqb b comma) c.args.line.now (cc) (cc) (cc) (λ x b q k. search (rules, tests))) o.yielded o.field-iterator o.yielded_by c.next.result c.next.new.self c.in-Some.field c.in-Some.is c.next.ensures.steps in
+    let h : o.count < length (fields line) = rw (fields_split line) (omega (arith, t.0, i.0)) in
+    let e : c.in-Some.field.now ≡ get_or (fields line) o.count c.in-Some.field.now = rw (fields_split line, i.0) t.1 in
+    let b = got-bad line row o.row o.count i.2 c.in-Some.field.now h e (no-number max_number c.in-Some.field.now c.in_err-number.ensures) in
+    let a = bad-answer line row o.row b (got-rest line row o.row o.count i.2) in
+    record { text = c.from_residual.ensures ∙ a.0; front = a.1.0; rest = a.1.1 }
 
-pub loop-b-preserved : goal.loop-b-preserved
-loop-b-preserved c = let o = c.loop-b in
+pub loop-field-preserved : goal.loop-field-preserved
+loop-field-preserved c =
+    let o = c.loop-field in
+    let i = o.invariant in
     let line = c.args.line.now in
     let row = c.args.row.now in
-    elim c.if-b-eq44.branch [
-      | then-b-eq44+else-not-may_end w ↦
-          let m = sym w.may_end.ensures ∙ w.if-not-may_end.false in
-          let r : o.count < max_fields = end-room o.value o.digits o.count m in
-          rw (w.row-is, w.value-is, w.digits-is, w.count-is, w.of_u32.ensures) (
-            omega arith,
-            lib.Dec.lit< tt,
-            omega arith,
-            length-set o.row o.count _ ∙ o.invariant.3,
-            read-comma line row o.row o.value o.digits o.count o.b-index o.invariant.4 c.requires (omega arith) o.invariant.0 w.if-b-eq44.true m,
-          )
-      | else-b-eq44+else-not-may_go_on w ↦
-          let m = sym w.may_go_on.ensures ∙ w.if-not-may_go_on.false in
-          let r = go-on-room o.digits (get_or line o.b-index 0) m in
-          let d : o.digits < 8 = r.2 in
-          rw (w.row-is, w.value-is, w.digits-is, w.count-is, w.with_digit-value.ensures) (
-            omega arith,
-            digits_more o.value o.digits (get_or line o.b-index 0) o.invariant.1 r.1,
-            o.invariant.2,
-            o.invariant.3,
-            read-digit line row o.row o.value o.digits o.count o.b-index o.invariant.4 c.requires (omega arith) w.if-b-eq44.false m,
-          )
-    ]
+    let t = YieldsList-turn (YieldsList-from_slice_split _ (λ b. eqb b comma) c.args.line.now (cc) (cc) (cc) (λ x b q k. search (rules, tests))) o.yielded o.field-iterator o.yielded_by c.next.result c.next.new.self c.in-Some.field c.in-Some.is c.next.ensures.steps in
+    let h : o.count < length (fields line) = rw (fields_split line) (omega (arith, t.0, i.0)) in
+    let e : c.in-Some.field.now ≡ get_or (fields line) o.count c.in-Some.field.now = rw (fields_split line, i.0) t.1 in
+    let n = the-number max_number c.in-Some.field.now _ c.in_ok-number.ensures in
+    rw (c.of_u32.ensures, n.1) (
+      omega (arith, i.0, length_push o.yielded c.in-Some.field),
+      length-set o.row o.count _ ∙ i.1,
+      got-next line row o.row o.count i.2 c.in-Some.field.now h e n.0 (omega (arith, i.2.few, c.if-count-eq-MAX_FIELDS.false)) (omega (arith, i.2.few, c.if-count-eq-MAX_FIELDS.false, c.requires)),
+    )
 
 pub returns : goal.returns
-returns c = let o = c.loop-b in
+returns c =
+    let o = c.loop-field in
+    let i = o.invariant in
     let line = c.args.line.now in
     let row = c.args.row.now in
-    let m = sym c.may_end-2.ensures ∙ c.if-not-may_end-2.false in
-    rw c.of_u32-2.ensures
-    (let t = row-answer line row (set o.row o.count _) o.count
-    (read-last line row o.row o.value o.digits o.count o.b-index o.invariant.4 c.requires (omega arith) o.invariant.0 m)
-    (rest-stays-set line row o.row o.value o.digits o.count o.b-index o.invariant.4 c.requires (end-room o.value o.digits o.count m) _) in
-    record { text = t.0; front = t.1.0; rest = t.1.1 })
-
-pub returns-then-not-may_end-2 : goal.returns-then-not-may_end-2
-returns-then-not-may_end-2 c = let o = c.loop-b in
-    let line = c.args.line.now in
-    let row = c.args.row.now in
-    let t = bad-answer line row o.row
-    (bad_last line row o.row o.value o.digits o.count o.b-index o.invariant.4 c.requires (omega arith) (sym c.may_end-2.ensures ∙ c.if-not-may_end-2.true))
-    (rest-stays line row o.row o.value o.digits o.count o.b-index o.invariant.4 c.requires o.invariant.2) in
-    record { text = t.0; front = t.1.0; rest = t.1.1 }
+    let z = YieldsList-end (YieldsList-from_slice_split _ (λ b. eqb b comma) c.args.line.now (cc) (cc) (cc) (λ x b q k. search (rules, tests))) o.yielded o.field-iterator o.yielded_by c.next.result c.next.new.self c.in-None.is c.next.ensures.steps in
+    let n : o.count ≡ length (fields line) = rw (fields_split line) (i.0 ∙ z.1) in
+    let w = got-all line row o.row o.count i.2 n in
+    let a = row-answer line row o.row o.count (w.0, sym n, w.1) (got-rest line row o.row o.count i.2) in
+    record { text = a.0; front = a.1.0; rest = a.1.1 }

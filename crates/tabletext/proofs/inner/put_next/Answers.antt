@@ -3,13 +3,13 @@ use mathlib.Core.List.{List, [], ◌∷◌, ◌++◌}
 use Prim.Native.Nat.{ℕ, ◌≤◌, ◌<◌, ◌+◌, ◌-◌}
 use native.Mathlib.Omega.{arith}
 use lib.ListN.{length, drop, take, length-drop}
-use Rattle.table.proofs.Laws.{part}
 use Rattle.table.specs.Text.{lf}
 use Rattle.table.specs.Sizes.{line_room}
 use Rattle.tabletext.specs.Bytes.{Put}
 use Rattle.tabletext.specs.declared.inner.Fed.{Fed}
 use Rattle.tabletext.proofs.Laws.{line-length, part-back, put-more, line-place, line-text}
 use Rattle.tabletext.proofs.inner.put_next.Goals as goal
+use Rattle.std.proofs.lemmas.List.{take_rest}
 
 pub slice_bounds-put_ended-count : goal.slice_bounds-put_ended-count
 slice_bounds-put_ended-count c =
@@ -29,7 +29,7 @@ slice_bounds-put_ended-end c =
 pub put_ended-p-requires : goal.put_ended-p-requires
 put_ended-p-requires c =
     let used = c.args.f.used in
-    let room : line_room ≤ length (take (length c.args.out.now - used) (drop used c.args.out.now)) = rw (part c.args.out.now used) (simp length-drop (omega (arith, c.requires.3))) in
+    let room : line_room ≤ length (take (length c.args.out.now - used) (drop used c.args.out.now)) = rw (take_rest c.args.out.now used) (simp length-drop (omega (arith, c.requires.3))) in
     ((line-text c.args.bytes.now c.args.f.from c.args.i c.requires.1).0, c.requires.2, room)
 
 pub overflow_add-result : goal.overflow_add-result
@@ -48,4 +48,4 @@ returns c =
     let t = line-text bytes f.from c.args.i c.requires.1 in
     let x = take (c.args.i - f.from) (drop f.from bytes) ++ (lf ∷ []) in
     let r : Fed = record { progress = q.result.progress; goes_on = q.result.goes_on; from = f.from + q.result.from; used = f.used + q.result.used } in
-    let g : Put f.progress x (drop f.used out) last q.result = subst (λ (l : List ℕ). Put f.progress x l last q.result) (part out f.used) q.ensures.put in record { put = (λ s₀ out₀ p. subst (λ (l : List ℕ). Put s₀ bytes out₀ l r) (sym (part-back out last f.used)) (put-more s₀ bytes out₀ out x t.1.0 last f q.result p c.requires.0 (omega (arith, c.requires.3)) t.1.1 g)); from_lt_from = omega (arith, q.ensures.from_value) }
+    let g : Put f.progress x (drop f.used out) last q.result = subst (λ (l : List ℕ). Put f.progress x l last q.result) (take_rest out f.used) q.ensures.put in record { put = (λ s₀ out₀ p. subst (λ (l : List ℕ). Put s₀ bytes out₀ l r) (sym (part-back out last f.used)) (put-more s₀ bytes out₀ out x t.1.0 last f q.result p c.requires.0 (omega (arith, c.requires.3)) t.1.1 g)); from_lt_from = omega (arith, q.ensures.from_value) }

@@ -3,7 +3,7 @@ use native.Mathlib.Omega.{arith}
 use Rattle.tof.proofs.inner.edge_of.Goals as goal
 
 pub overflow_mul-result : goal.overflow_mul-result
-overflow_mul-result c = let a = c.args in let e = edge-fits a.s c.requires.0 a.i c.requires.1 in record { fits = omega arith }
+overflow_mul-result c = let a = c.args in let e = edge-fits a.s.scale a.s.sound a.i c.requires in record { fits = omega arith }
 
 pub overflow_add-result : goal.overflow_add-result
-overflow_add-result c = let a = c.args in let e = edge-fits a.s c.requires.0 a.i c.requires.1 in record { fits = omega arith }
+overflow_add-result c = let a = c.args in let e = edge-fits a.s.scale a.s.sound a.i c.requires in record { fits = omega arith }

@@ -9,19 +9,19 @@ unfolding window_bins
 returns-then-hi-s c = rw (← c.min-lo.ensures, ← c.max-hi.ensures, le-leb _ _ c.if-hi-s.true)
 
 pub overflow_sub-last : goal.overflow_sub-last
-overflow_sub-last c = (bins-held c.args.s c.requires).0
+overflow_sub-last c = (bins-held c.args.s.scale c.args.s.sound).0
 
 pub returns-then-lo-s : goal.returns-then-lo-s
 unfolding window_bins
 returns-then-lo-s c = rw (← c.min-lo.ensures, ← c.max-hi.ensures, lt-leb _ _ c.if-hi-s.false, le-leb _ _ c.if-lo-s.true)
 
 pub bin_of-requires : goal.bin_of-requires
-bin_of-requires c = let p = plain c.args.s c.requires in
+bin_of-requires c = let p = plain c.args.s.scale c.args.s.sound in
     let e = c.max.ensures in
     (omega arith, omega arith)
 
 pub bin_of-requires-2 : goal.bin_of-requires-2
-bin_of-requires-2 c = let p = plain c.args.s c.requires in
+bin_of-requires-2 c = let p = plain c.args.s.scale c.args.s.sound in
     let e = c.min.ensures in
     let l = c.if-hi-s.false in
     (omega arith, omega arith)

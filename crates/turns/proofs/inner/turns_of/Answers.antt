@@ -5,10 +5,11 @@ use lib.ListN.{length, set, length-set}
 use lib.Ieee.{lt}
 use Rattle.numeric.specs.Arith.{at}
 use Rattle.numeric.proofs.Patterns.{lt-bits}
-use Rattle.turns.proofs.Laws.{as_number, Going, goes_on, turns-here, starts, ends-up, ends-down}
+use Rattle.turns.proofs.Laws.{Going, goes_on, turns-here, starts, ends-up, ends-down}
 use Rattle.turns.proofs.Apexes.{candidates-are, no-candidates}
 use Rattle.turns.proofs.inner.turns_of.Goals.{then-up-on, else-up-on}
 use Rattle.turns.proofs.inner.turns_of.Goals as goal
+use Rattle.numeric.proofs.Laws.{as_number}
 
 pub returns-then-n-lt3 : goal.returns-then-n-lt3
 returns-then-n-lt3 c = record { are = no-candidates c.args.y.now _ (omega arith); shape = λ h. absurd (omega arith) }

@@ -14,4 +14,4 @@ decode_floats-requires c = let f = floats-length c.args.self.now.used.now in
     (rw c.requires.1 (omega (arith, f, c.requires.0.readings)), c.requires.0.ranged)
 
 pub returns : goal.returns
-returns c = c.decode_floats.ensures ∙ ap (λ (k : ℕ). take k (drop (c.args.r * c.args.self.now.cols) (floats_of c.args.self.now.used.now))) c.requires.1
+returns c = c.decode_floats.ensures ∙ ap (λ (k : ℕ). take k (drop (c.args.r * c.args.self.now.terms.cols) (floats_of c.args.self.now.used.now))) c.requires.1

@@ -1,11 +1,11 @@
 use mathlib.Core.Path.{refl}
 use mathlib.Core.Bool.{true}
-use Rattle.numeric.proofs.Laws.{and-true}
 use Rattle.peaklist.specs.Extremes.{extreme, is_any}
 use Rattle.merging.specs.Merging.{have_all, first_of}
 use Rattle.merging.specs.Walk.{state_of}
 use Rattle.merging.proofs.Laws.{sum-having-one, any-having-one, first-having-one, then-chosen}
 use Rattle.merging.proofs.inner.Merging.start.Goals as goal
+use Rattle.std.proofs.Math.Bool.{and-true}
 
 pub returns : goal.returns
 unfolding state_of extreme is_any have_all first_of
