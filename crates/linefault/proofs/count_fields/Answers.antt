@@ -10,7 +10,15 @@ use Rattle.std.proofs.lemmas.Iterator.Consumers.{YieldsList-turn, YieldsList-end
 use Rattle.table.specs.Text.{comma, fields}
 use Rattle.table.proofs.Laws.{fields_split}
 use Rattle.linefault.proofs.Laws.{err_or-ok, seen-none, seen-room, seen-next, seen-bad, seen-all}
+use Rattle.linefault.proofs.count_fields.Goals.{In-Some}
 use Rattle.linefault.proofs.count_fields.Goals as goal
+
+-- the field of this turn
+turn : (c : In-Some) → (c.loop-text.count < length (fields c.args.line.now)) × (c.in-Some.text.now ≡ get_or (fields c.args.line.now) c.loop-text.count c.in-Some.text.now)
+turn c =
+    let o = c.loop-text in
+    let t = YieldsList-turn (YieldsList-from_slice_split _ (λ b. eqb b comma) c.args.line.now (cc) (cc) (cc) (λ x b q k. search (rules, tests))) o.yielded o.text-iterator o.yielded_by c.next.result c.next.new.self c.in-Some.text c.in-Some.is c.next.ensures.steps in
+    (rw (fields_split c.args.line.now) (omega (arith, t.0, o.invariant.0)), rw (fields_split c.args.line.now, o.invariant.0) t.1)
 
 pub loop-text-init : goal.loop-text-init
 loop-text-init c = (refl, seen-none c.args.kind c.args.line.now)
@@ -19,30 +27,24 @@ pub check_field-requires : goal.check_field-requires
 check_field-requires c =
     let o = c.loop-text in
     let line = c.args.line.now in
-    let t = YieldsList-turn (YieldsList-from_slice_split _ (λ b. eqb b comma) c.args.line.now (cc) (cc) (cc) (λ x b q k. search (rules, tests))) o.yielded o.text-iterator o.yielded_by c.next.result c.next.new.self c.in-Some.text c.in-Some.is c.next.ensures.steps in
-    let h : o.count < length (fields line) = rw (fields_split line) (omega (arith, t.0, o.invariant.0)) in
-    let e : c.in-Some.text.now ≡ get_or (fields line) o.count c.in-Some.text.now = rw (fields_split line, o.invariant.0) t.1 in
-    let r = seen-room c.args.kind line o.count o.at o.invariant.1 c.in-Some.text.now h e in
+    let u = turn (goal.at.check_field-requires c).In-Some in
+    let r = seen-room c.args.kind line o.count o.at o.invariant.1 c.in-Some.text.now u.0 u.1 in
     omega (arith, r)
 
 pub overflow_add-at-in-loop-text : goal.overflow_add-at-in-loop-text
 overflow_add-at-in-loop-text c =
     let o = c.loop-text in
     let line = c.args.line.now in
-    let t = YieldsList-turn (YieldsList-from_slice_split _ (λ b. eqb b comma) c.args.line.now (cc) (cc) (cc) (λ x b q k. search (rules, tests))) o.yielded o.text-iterator o.yielded_by c.next.result c.next.new.self c.in-Some.text c.in-Some.is c.next.ensures.steps in
-    let h : o.count < length (fields line) = rw (fields_split line) (omega (arith, t.0, o.invariant.0)) in
-    let e : c.in-Some.text.now ≡ get_or (fields line) o.count c.in-Some.text.now = rw (fields_split line, o.invariant.0) t.1 in
-    let r = seen-room c.args.kind line o.count o.at o.invariant.1 c.in-Some.text.now h e in
+    let u = turn (goal.at.overflow_add-at-in-loop-text c).In-Some in
+    let r = seen-room c.args.kind line o.count o.at o.invariant.1 c.in-Some.text.now u.0 u.1 in
     omega (arith, r)
 
 pub returns-in_err-check_field : goal.returns-in_err-check_field
 returns-in_err-check_field c =
     let o = c.loop-text in
     let line = c.args.line.now in
-    let t = YieldsList-turn (YieldsList-from_slice_split _ (λ b. eqb b comma) c.args.line.now (cc) (cc) (cc) (λ x b q k. search (rules, tests))) o.yielded o.text-iterator o.yielded_by c.next.result c.next.new.self c.in-Some.text c.in-Some.is c.next.ensures.steps in
-    let h : o.count < length (fields line) = rw (fields_split line) (omega (arith, t.0, o.invariant.0)) in
-    let e : c.in-Some.text.now ≡ get_or (fields line) o.count c.in-Some.text.now = rw (fields_split line, o.invariant.0) t.1 in
-    let w = seen-bad c.args.kind line o.count o.at o.invariant.1 c.in-Some.text.now h e (sym c.in_err-check_field.ensures) in
+    let u = turn (goal.at.returns-in_err-check_field c).In-Some in
+    let w = seen-bad c.args.kind line o.count o.at o.invariant.1 c.in-Some.text.now u.0 u.1 (sym c.in_err-check_field.ensures) in
     let r = err_or-ok c.from_residual.result _ c.from_residual.ensures.0 in
     record { good = r.0 ∙ sym w; count = r.1 }
 
@@ -50,10 +52,8 @@ pub loop-text-preserved : goal.loop-text-preserved
 loop-text-preserved c =
     let o = c.loop-text in
     let line = c.args.line.now in
-    let t = YieldsList-turn (YieldsList-from_slice_split _ (λ b. eqb b comma) c.args.line.now (cc) (cc) (cc) (λ x b q k. search (rules, tests))) o.yielded o.text-iterator o.yielded_by c.next.result c.next.new.self c.in-Some.text c.in-Some.is c.next.ensures.steps in
-    let h : o.count < length (fields line) = rw (fields_split line) (omega (arith, t.0, o.invariant.0)) in
-    let e : c.in-Some.text.now ≡ get_or (fields line) o.count c.in-Some.text.now = rw (fields_split line, o.invariant.0) t.1 in
-    (omega (arith, o.invariant.0, length_push o.yielded c.in-Some.text), seen-next c.args.kind line o.count o.at o.invariant.1 c.in-Some.text.now h e (sym c.in_ok-check_field.ensures))
+    let u = turn (goal.at.loop-text-preserved c).In-Some in
+    (omega (arith, o.invariant.0, length_push o.yielded c.in-Some.text), seen-next c.args.kind line o.count o.at o.invariant.1 c.in-Some.text.now u.0 u.1 (sym c.in_ok-check_field.ensures))
 
 pub returns : goal.returns
 returns c =
