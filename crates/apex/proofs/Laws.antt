@@ -7,8 +7,8 @@ use Prim.Native.Nat.{ℕ, zero, suc, ◌≤◌, ◌<◌, ◌-◌, ◌+◌}
 use native.Mathlib.Omega.{arith}
 use native.Mathlib.Nat.{add-zero, eq-or-lt_of_le}
 use native.Mathlib.Numerals.{add-one, sub-one}
-use lib.ListN.{length, drop}
-use lib.Seq.{drop-cons}
+use lib.ListN.{length, get_or, drop, take}
+use lib.Seq.{drop-cons, get_or-take, get_or-drop}
 use lib.Ieee.{Float, nan, inf, fin, lt, le, is_nan}
 use Rattle.numeric.specs.Arith.{at}
 use borrow.Author.Tests.{not-true, ltb-true, ltb-false}
@@ -177,6 +177,22 @@ right-run y h zero a l up = rw add-zero
 right-run y h (suc n) a l up =
     let e : a + n + 1 ≡ a + suc n = omega arith in
     right-run y h n a (omega arith) (λ k p q. up k p (omega arith)) ∙ right-on y h (a + n) (omega arith) (up (a + n) (omega arith) (omega arith)) ∙ ap (right_foot y h) e
+
+-- The right foot is the first reading that is not above the height, of the part of the row from i on, or the row's end.
+module _ (y part : List Float) (h : Float) (i : ℕ) (inside : i < length y) (is : part ≡ take (length y - i) (drop i y)) where
+  from : (k : ℕ) → i + k < length y → lt h (get_or part k nan) ≡ lt h (at y (i + k))
+  from k l = ap (lt h) (ap (λ (p : List Float). get_or p k nan) is ∙ get_or-take (length y - i) (drop i y) k nan (omega arith) ∙ get_or-drop i y k nan)
+
+  up_from : (n : ℕ) → i + n ≤ length y → ((k : ℕ) → k < n → lt h (get_or part k nan) ≡ true) → right_foot y h i ≡ right_foot y h (i + n)
+  up_from n l up = right-run y h n i l (λ k p q. let e : i + (k - i) ≡ k = omega arith in rw e at (sym (from (k - i) (omega arith)) ∙ up (k - i) (omega arith)))
+
+  pub right-found : (n : ℕ) → i + n < length y → ((k : ℕ) → k < n → lt h (get_or part k nan) ≡ true) → lt h (get_or part n nan) ≡ false → i + n ≡ right_foot y h i
+  right-found n l up stop = sym (up_from n (omega arith) up ∙ right-stop y h (i + n) l (sym (from n l) ∙ stop))
+
+  pub right-none : ((k : ℕ) → k < length y - i → lt h (get_or part k nan) ≡ true) → length y - 1 ≡ right_foot y h i
+  right-none up =
+      let e : i + (length y - 1 - i) ≡ length y - 1 = omega arith in
+      omega (arith, up_from (length y - 1 - i) (omega arith) (λ k p. up k (omega arith)), ap (right_foot y h) e)
 
 -- so that the feet of an apex are those of every sample strictly between them
 pub record Feet (y : List Float) (h : Float) (i j : ℕ) : Type 0 where

@@ -1,9 +1,10 @@
 -- The apexes of a row of readings or of a retention trace: candidates, prominence, half height and the places where the
 -- row crosses a height. Every operation is rounded once, in this order.
 use Rattle.std.specs.Prelude.{◌≡◌, Bool, true, false, cond, not, ◌&&◌, List, [], ◌∷◌, ◌++◌, ℕ, zero, suc, ◌+◌, ◌-◌, min, ltb, length, drop, Float}
-use Rattle.std.specs.Float.Ieee.{lt, le, ne, is_nan}
+use Rattle.std.specs.Float.{binary32}
+use Rattle.std.specs.Float.Ieee.{lt, le, ne, is_nan, of_bits}
 use Rattle.numeric.specs.Arith.{◌⊕◌, ◌⊖◌, ◌⊗◌, ◌⊘◌, 𝟎, ½, index_f, at}
-use Rattle.numeric.specs.Numeric.{max_f}
+use Rattle.numeric.specs.Numeric.{max_f, clamp_f, quad_f}
 use Rattle.apex.specs.declared.inner.Rise.{Rise}
 
 -- ---- candidates
@@ -20,6 +21,10 @@ candidates_to y (suc k) = candidates_to y k ++ cond (is_candidate y (suc k)) (su
 -- the candidates of a row: its first and its last sample are none
 abbrev pub candidates : List Float → List ℕ
 candidates y = candidates_to y (length y - 2)
+
+-- how far an apex lies from its sample, by the parabola through it and its neighbours, at most half a sample
+unfoldable pub offset_of : List Float → ℕ → Float
+offset_of y i = clamp_f (quad_f (at y (i - 1)) (at y i) (at y (i + 1))) (of_bits binary32 0xbf00_0000) ½
 
 -- ---- prominence
 

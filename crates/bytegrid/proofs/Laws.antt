@@ -1,5 +1,5 @@
 -- Laws of grids in bytes.
-use mathlib.Core.Path.{◌≡◌, refl, ◌∙◌}
+use mathlib.Core.Path.{◌≡◌, refl}
 use mathlib.Core.Bool.{true}
 use mathlib.Core.List.{List, [], ◌∷◌}
 use Prim.Native.Nat.{ℕ, ◌+◌, ◌-◌, ◌*◌, ◌/◌, ◌%◌, ◌^◌, ◌≤◌, ◌<◌}
@@ -15,30 +15,16 @@ use Rattle.numeric.specs.Numeric.{all_in_range}
 use Rattle.numeric.proofs.Patterns.{all-wider}
 use Rattle.record.specs.Record.{size, size_in_bytes}
 use Rattle.params.specs.Params.{most_peaks}
-use Rattle.smoothing.specs.Smoothing.{normalised, sound_weights}
+use Rattle.smoothing.specs.Smoothing.{sound_weights}
 use Rattle.smoothrow.specs.SmoothRow.{sound_or_none}
 use Rattle.gridrows.specs.Grid.{Grid}
 use Rattle.gridrows.specs.Steps.{numbered, Done}
 use Rattle.gridrows.proofs.Laws.{count-bound}
 use Rattle.gridrows.proofs.Laws as grid
-use Rattle.wordbytes.specs.Bytes.{floats_of}
-use Rattle.wordbytes.proofs.BytesLaws.{floats-length}
 use Rattle.byterows.specs.AsBytes.{as_bytes}
 use Rattle.bytegrid.specs.ByteGrid.{Fit}
 
 -- ---- weights
--- no bytes are no floats
-pub no_floats : (b : List ℕ) → length b ≡ 0 → floats_of b ≡ []
-no_floats b h = empty (floats_of b) (floats-length b ∙ rw h)
-  where
-    empty : (l : List Float) → length l ≡ 0 → l ≡ []
-    empty [] e = refl
-    empty (x ∷ xs) e = absurd (omega arith)
-
-pub none-divided : [] ≡ normalised []
-unfolding normalised
-none-divided = refl
-
 -- all weights are in the range of readings
 sound-ranged : (ws : List Float) → sound_weights ws ≡ true → all_in_range max_reading ws ≡ true
 unfolding sound_weights

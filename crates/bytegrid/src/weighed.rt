@@ -1,5 +1,5 @@
 // Rows of a grid with its weights decoded.
-ghost use Rattle.std.specs.Prelude.{◌≤◌, ◌/◌, [], length};
+ghost use Rattle.std.specs.Prelude.{◌≤◌, ◌/◌, length};
 ghost use Rattle.wordbytes.specs.Bytes.{floats_of};
 ghost use Rattle.gridrows.specs.Steps.{Ready, Done};
 ghost use Rattle.gridrows.specs.Lent.{Lent};
@@ -12,7 +12,7 @@ use rowsearch::scratch::Scratch;
 use smoothrow::kernel::Kernel;
 use std::ops::Range;
 
-// The records of the peaks of some rows, smoothed by weights.
+// The records of the peaks of some rows, smoothed by weights where there are any.
 fn detect_smoothed(
     call: &ByteCall<'_>,
     weights: &[u8],
@@ -35,25 +35,8 @@ fn detect_smoothed(
     gridrows::rows::detect_rows(call, &kernel, rows, out, lent)
 }
 
-// The same where there are no weights.
-fn detect_plain(
-    call: &ByteCall<'_>,
-    rows: Range<usize>,
-    out: &mut [u8],
-    lent: &mut RowScratch<'_, '_>,
-) -> usize
-    requires { Ready (bytes_in call.now []) rows.start rows.end (length out.old / 4) × Lent call.now.terms.cols call.now.terms.cols lent.old }
-    ensures { Done as_bytes (bytes_in call.now []) rows.start rows.end out.old out.new result }
-{
-    let none = [0f32; 0];
-    let kernel = Kernel {
-        weights: &none,
-        divided: &none,
-    };
-    gridrows::rows::detect_rows(call, &kernel, rows, out, lent)
-}
-
-// The same for both; of `z` a row is used.
+// The same with scratch apart; of `z` a row is used. Each list is a parameter of its own: a `RowScratch` asks that its `z` is as long as a
+// row, and this function takes a longer one.
 pub fn detect_lent(
     call: &ByteCall<'_>,
     weights: &[u8],
@@ -72,8 +55,5 @@ pub fn detect_lent(
         y,
         search: scratch,
     };
-    if weights.is_empty() {
-        return detect_plain(call, rows, out, &mut lent);
-    }
     detect_smoothed(call, weights, rows, out, &mut lent)
 }

@@ -6,9 +6,8 @@ ghost use Rattle.byterows.specs.Call.{bytes_in};
 
 use super::call::ByteCall;
 use super::records::{AsBytes, Bytes};
+use gridrows::call::Terms;
 use gridrows::source::Source;
-use params::ImDetectParams;
-use record::PeakId;
 use row::inner::Row;
 use tof::CheckedScale;
 
@@ -26,12 +25,8 @@ impl<'a> Source for ByteCall<'a> {
 
     ghost Reads = { λ c r z. z ≡ row_of (bytes_in c []) r };
 
-    fn params(&self) -> ImDetectParams {
-        self.terms.params
-    }
-
-    fn first(&self) -> PeakId {
-        self.terms.first
+    fn terms(&self) -> Terms {
+        self.terms
     }
 
     fn read(&self, r: usize, z: &mut [f32]) {

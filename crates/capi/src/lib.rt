@@ -43,7 +43,7 @@ fn sound_weights(weights: &[u8]) -> bool
 }
 
 // Reads the lists of a grid, each by the test of its field: those of lists in bytes are other functions than those of lists in words, which
-// the reader of a grid in words calls.
+// the reader of a grid in words calls. Over row's `Column` each test would be a third function, that reads a value at a time.
 fn see(used: &[u8], scans: &[u8], mobility: &[u8], weights: &[u8]) -> Seen
     ensures { result ≡ seen_in (floats_of used.now) (words_of scans.now) (floats_of mobility.now) (floats_of weights.now) }
 {
@@ -64,10 +64,7 @@ fn see(used: &[u8], scans: &[u8], mobility: &[u8], weights: &[u8]) -> Seen
 fn is_past_four(found: Result<(), Refusal>) -> bool
     ensures { result ≡ (eqb (number_in found) 0 || ltb 4 (number_in found)) }
 {
-    match found {
-        Ok(()) => true,
-        Err(refusal) => refusal > Refusal::Value,
-    }
+    found.err().is_none_or(|refusal| refusal > Refusal::Value)
 }
 
 // Whether the lists of a call are whole words; `room` is the length of the lent list, in bytes.
@@ -117,6 +114,7 @@ fn detect(
     Ok(bytegrid::sized::detect_bytes(call, weights, 0..rows, out))
 }
 
+// The flag is a word, as the entry is handed it: the check refuses one above 1, and its bounds are made before that.
 fn group_of(flag: u32, group: u32) -> Option<u32>
     ensures { result ≡ group_of flag group }
 {

@@ -29,6 +29,7 @@ pub fn choose(order: &[u32], times: &[u32], sep: f32, out: &mut [u32]) -> usize
     ensures count { result ≡ length (chosen (near_in_time (time_of times.now) sep) order.now) }
     ensures front { out.new ≡ chosen (near_in_time (time_of times.now) sep) order.now ++ drop result out.old }
 {
+    // how many are chosen is the place of the next one, and the answer
     let mut n = 0usize;
     'outer: for &p in order {
         let time = time_of(times, p);

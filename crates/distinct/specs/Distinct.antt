@@ -1,5 +1,5 @@
 -- Lists that have nothing twice.
-use Rattle.std.specs.Prelude.{Bool, true, false, not, ◌&&◌, ◌||◌, List, [], ◌∷◌, map, ℕ, eqb, length}
+use Rattle.std.specs.Prelude.{◌≡◌, Bool, true, false, cond, not, ◌&&◌, ◌||◌, List, [], ◌∷◌, map, ℕ, eqb, length, take}
 use Rattle.record.specs.declared.ImPeak1D.{ImPeak1D}
 use Rattle.peaklist.specs.PeakList.{nth}
 use Rattle.digits.specs.Sorted.{sorted_by, up_to}
@@ -23,6 +23,11 @@ distinct_ids ps = distinct (map (λ p. p.id) ps)
 -- the places of peaks in the order of their identities
 abbrev pub by_identity : List ImPeak1D → List ℕ
 by_identity ps = sorted_by (λ k. key_of Identity (nth ps k)) (up_to (length ps))
+
+-- Whether identities are distinct is answered. Where they are, a list is filled with the first places in their order, and else it stays.
+pub record Told (ps : List ImPeak1D) (old new : List ℕ) (answer : Bool) : Type 0 where
+  pub distinct : answer ≡ distinct_ids ps
+  pub order : new ≡ cond answer (take (length old) (by_identity ps)) old
 
 -- no number is the one before it, where x stands before the first
 unfoldable pub differ_from : ℕ → List ℕ → Bool

@@ -1,10 +1,10 @@
 // Identities that rise are distinct; others are sorted, and each is compared with the next.
-ghost use Rattle.std.specs.Prelude.{◌≡◌, true, cond, ◌++◌, map, ℕ, ◌≤◌, ◌<◌, length, get_or, take, drop};
+ghost use Rattle.std.specs.Prelude.{◌≡◌, true, cond, ◌++◌, map, ℕ, ◌≤◌, ◌<◌, length, get_or, drop};
 ghost use mathlib.Core.List.{Memᴰ};
 ghost use Rattle.limits.specs.Limits.{max_list};
 ghost use Rattle.peaklist.specs.Records.{peaks_in};
 ghost use Rattle.digits.specs.Sorted.{up_to};
-ghost use Rattle.distinct.specs.Distinct.{distinct_ids, by_identity, neighbours_differ};
+ghost use Rattle.distinct.specs.Distinct.{distinct_ids, by_identity, Told, neighbours_differ};
 
 use keys::KeyRule;
 use peaklist::Records;
@@ -38,8 +38,7 @@ fn by_order(
     spare: &mut [u32],
 ) -> bool
     requires { (records.count ≤ max_list) × (length to.old ≤ records.count) × (length order.old ≡ records.count) × (records.count ≤ length ids.old) × (records.count ≤ length spare.old) }
-    ensures distinct { result ≡ distinct_ids (peaks_in records.entry) }
-    ensures order { to.new ≡ cond result (take (length to.old) (by_identity (peaks_in records.entry))) to.old }
+    ensures { Told (peaks_in records.entry) to.old to.new result }
 {
     keys::inner::put_keys(records, KeyRule::Identity, ids);
     ordering::inner::order_rows(ids, 1, order, spare);
@@ -55,8 +54,7 @@ fn by_order(
 #[inline(never)]
 fn with_room<const N: usize>(records: Records<'_>, to: &mut [u32]) -> bool
     requires { (records.count ≤ N) × (N ≤ max_list) × (length to.old ≤ records.count) }
-    ensures distinct { result ≡ distinct_ids (peaks_in records.entry) }
-    ensures order { to.new ≡ cond result (take (length to.old) (by_identity (peaks_in records.entry))) to.old }
+    ensures { Told (peaks_in records.entry) to.old to.new result }
 {
     let mut ids = [0u32; N];
     let mut order = [0u32; N];
@@ -73,8 +71,7 @@ fn with_room<const N: usize>(records: Records<'_>, to: &mut [u32]) -> bool
 // The same, with no room lent: where the identities rise, the places count up.
 fn put_first(records: Records<'_>, to: &mut [u32]) -> bool
     requires { (records.count ≤ max_list) × (length to.old ≤ records.count) }
-    ensures distinct { result ≡ distinct_ids (peaks_in records.entry) }
-    ensures order { to.new ≡ cond result (take (length to.old) (by_identity (peaks_in records.entry))) to.old }
+    ensures { Told (peaks_in records.entry) to.old to.new result }
 {
     if rise(records) {
         digits::inner::count_up(to);

@@ -1,7 +1,7 @@
 // The numbers of expansion's second call.
 ghost use Rattle.std.specs.Prelude.{◌≡◌, ◌&&◌, ◌/◌, ◌%◌, eqb, length, IfOk};
 ghost use Rattle.refusal.specs.Numbered.{number_in};
-ghost use Rattle.record.specs.Record.{size, all_sound};
+ghost use Rattle.record.specs.Record.{size};
 ghost use Rattle.expandnumbers.specs.ExpandNumber.{sums_to, paired_axes};
 ghost use Rattle.expandmany.specs.Calls.{many_lent};
 ghost use Rattle.expand.specs.ExpandCall.{many_asks, many_number};
@@ -26,15 +26,8 @@ fn same_lengths(run: &Run<'_>, starts: usize, peaks: &PeakList<'_>) -> bool
         & expandnumbers::inner::paired_axes(starts, run.ids.len(), run.times.len())
 }
 
-// Whether all records of a list are sound.
-fn sound_records(list: &[u32]) -> bool
-    ensures { result ≡ all_sound list.now (length list.now / size) }
-{
-    record::inner::all_sound(list)
-}
-
 // What a call is asked besides its index; `counts` is the length of the column of counts.
-#[tactic(auto, unfolding(crate::specs::ExpandCall::many_asks))]
+#[tactic(auto, unfolding(crate::specs::ExpandCall::many_asks, expandnumbers::specs::ExpandNumber::rising_axes))]
 fn many_asks(
     run: &Run<'_>,
     e: RtExpandParams,
@@ -62,8 +55,8 @@ fn many_asks(
         ),
         axes: tof::inner::sound_ends(scale),
         weights: expandnumbers::inner::all_weights(peaks.lengths, peaks.weights),
-        order: expandnumbers::inner::rising_axes(run.ids, run.times),
-        records: sound_records(peaks.list),
+        order: rttime::inner::rising_axes(run.ids, run.times),
+        records: record::inner::all_sound(peaks.list),
         room: expandnumbers::inner::enough_room(n, most, lent.out.len()) & (n <= counts),
         scratch: expandnumbers::inner::enough_scratch(
             f,

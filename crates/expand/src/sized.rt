@@ -13,7 +13,7 @@ use expandpeak::scratch::TraceScratch;
 use rowsearch::scratch::Arrays;
 
 // Expands all mobility peaks of a list, with room for a run of N frames. It is no part of its caller, so that shorter runs do not pay for
-// the lists of longer ones.
+// the lists of longer ones. Scratch stands list by list, as below.
 #[inline(never)]
 fn expand_in<const N: usize, const B: usize>(
     run: &FollowedRun<'_>,

@@ -44,7 +44,9 @@ fn expand_at(
 }
 
 // Writes the retention peaks of all mobility peaks of a list to the front of `out`, one peak's after another's, with identities that run
-// on, and how many each has to the front of `counts`. Answers how many there are in all.
+// on, and how many each has to the front of `counts`. Answers how many there are in all. The number i tells the record too, so that with a
+// `zip` of lengths and counts the loop would count besides. `at` is kept, and no rest of the weights as in `all_weights` of expandnumbers:
+// the sums of counts and lengths so far are what the facts about a turn speak of.
 pub fn expand_peaks(
     run: &FollowedRun<'_>,
     peaks: &PeakList<'_>,

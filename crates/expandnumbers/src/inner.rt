@@ -1,7 +1,7 @@
 // The parts of what a call of expansion is asked. Each function takes any lists and numbers.
 ghost use Rattle.std.specs.Prelude.{◌≡◌, ◌≤◌, ◌+◌, ◌*◌, min, leb, length};
 ghost use Rattle.expandone.specs.Steps.{most};
-ghost use Rattle.expandnumbers.specs.ExpandNumber.{sums_to, all_weights, paired_axes, sound_values, rising_axes, enough_room, enough_scratch};
+ghost use Rattle.expandnumbers.specs.ExpandNumber.{sums_to, all_weights, paired_axes, sound_values, enough_room, enough_scratch};
 
 use record::PeakId;
 use rtparams::RtExpandParams;
@@ -35,14 +35,8 @@ pub fn sums_to(lengths: &[u32], n: usize) -> bool
     left == 0
 }
 
-// Whether n times m is at most `most`.
-fn fits_times(n: usize, m: usize, most: usize) -> bool
-    ensures { result ≡ leb (n * m) most }
-{
-    n.checked_mul(m).is_some_and(|all| all <= most)
-}
-
-// Whether each of the lists of weights that are joined, with these lengths, is sound.
+// Whether each of the lists of weights that are joined, with these lengths, is sound. A loop: a `fold` would hand on from list to list both
+// the answer so far and the weights that are left, and take its answer out of the pair.
 pub fn all_weights(lengths: &[u32], weights: &[f32]) -> bool
     ensures { result ≡ all_weights lengths.now weights.now }
 {
@@ -71,15 +65,7 @@ pub fn sound_values(
     e.is_sound()
         & tof::inner::sound_step(step)
         & numeric::inner::all_in_range(times, limits::MAX_SECONDS)
-        & fits_times(n, m, limits::IDENTITIES - first as usize)
-}
-
-// Whether frame numbers rise and times do not fall.
-#[tactic(auto, unfolding(crate::specs::ExpandNumber::rising_axes))]
-pub fn rising_axes(ids: &[u32], times: &[f32]) -> bool
-    ensures { result ≡ rising_axes ids.now times.now }
-{
-    params::inner::is_rising(ids) & rttime::inner::never_falls(times)
+        & frameindex::numbers::fits_times(n, m, limits::IDENTITIES - first as usize)
 }
 
 // Whether `room` words hold n times m records.
@@ -87,7 +73,7 @@ pub fn rising_axes(ids: &[u32], times: &[f32]) -> bool
 pub fn enough_room(n: usize, m: usize, room: usize) -> bool
     ensures { result ≡ enough_room n m room }
 {
-    fits_times(n, m, room / RtPeak1D::WORDS)
+    frameindex::numbers::fits_times(n, m, room / RtPeak1D::WORDS)
 }
 
 // Whether scratch has a place for each of n frames.

@@ -13,7 +13,9 @@ use record::{ImPeak1D, PeakId};
 use rtwindow::Frames;
 use tof::CheckedScale;
 
-// Writes the retention peaks of a mobility peak over some frames to the front of `out` and answers how many there are.
+// Writes the retention peaks of a mobility peak over some frames to the front of `out` and answers how many there are. A peak, its weights
+// and its first identity come one by one: a struct of the three would be taken apart here at once, since the weights go to the trace, and
+// the two others to where its peaks are placed.
 fn expand_over(
     run: &FollowedRun<'_>,
     weights: &[f32],
@@ -60,7 +62,8 @@ fn expand_over(
     trace.follow(&mut scratch.trace, out)
 }
 
-// Writes the retention peaks of a mobility peak to the front of `out` and answers how many there are.
+// Writes the retention peaks of a mobility peak to the front of `out` and answers how many there are. A `match`: by `map_or` the steps
+// would stand in a closure that holds `scratch` and `out`.
 pub fn expand_peak(
     run: &FollowedRun<'_>,
     weights: &[f32],

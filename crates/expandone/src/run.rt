@@ -15,7 +15,8 @@ pub struct Run<'a> {
     pub scale: TofScale,
 }
 
-// A run and parameters that no number refuses.
+// A run and parameters that no number refuses. It holds no `Run`: the index of this one is checked, and with a `Run` inside, the unchecked
+// one would stand beside it.
 #[derive(Clone, Copy)]
 pub struct FollowedRun<'a> {
     pub index: &'a CheckedIndex<'a>,

@@ -7,6 +7,7 @@ ghost use Rattle.expandtrace.specs.Trace.{trace_over, any_above, way_of};
 ghost use Rattle.expandtrace.specs.FallbackPeaks.{fallback_peaks, Put};
 
 use frameindex::CheckedIndex;
+use framesums::inner::FrameRange;
 use record::{ImPeak1D, PeakId};
 use rtrecord::RtApex;
 use rtwindow::Frames;
@@ -33,7 +34,8 @@ pub struct Placing<'a> {
 }
 
 // The readings of a peak's bins and scans, summed for each of some frames. `near` is scratch, a word a frame of the run: where the
-// search of that frame begins.
+// search of that frame begins. The clauses on pad, frames and lists are those of a run and a window: the run stands in a crate above, and
+// a window is known here as two frames. So `ix`, `scale` and `pad` come one by one, and are not taken from a run.
 #[tactic(auto, unfolding(crate::specs::Trace::trace_over))]
 pub fn put_trace(
     ix: &CheckedIndex,
@@ -48,8 +50,11 @@ pub fn put_trace(
     ensures { out.new ≡ trace_over ix.now scale.scale pad p frames.lo frames.hi ++ drop (frames.hi + 1 - frames.lo) out.old }
 {
     let w = windows::inner::peak_window(scale, pad, p);
-    let n = frames.hi + 1 - frames.lo;
-    nearsums::inner::put_frame_sums_near(ix, frames.lo, n, w, near, out);
+    let range = FrameRange {
+        from: frames.lo,
+        count: frames.hi + 1 - frames.lo,
+    };
+    nearsums::inner::put_frame_sums_near(ix, range, w, near, out);
 }
 
 // Whether a value is above 0.
@@ -85,7 +90,7 @@ impl<'a> Placing<'a> {
     }
 
     // Writes the fallback's peak of the trace to the front of `out`, if there is one, and answers how many were written. The fallback is
-    // handed the times and the numbers of the whole run.
+    // handed the times and the numbers of the whole run. A `match`: by `map_or` the write would stand in a closure that holds `out`.
     pub fn put_fallback(self, x: &[f32], frac: f32, out: &mut [u32]) -> usize
         requires { (0 < length x.now) × (self.lo + length x.now ≤ length self.ids.now) × (length self.ids.now ≤ exact_index) × (0 < length self.times.now) × (rt_size ≤ length out.old) }
         ensures { Put (fallback_peaks x.now self.entry.lo self.entry.ids.now self.entry.times.now self.entry.peak frac self.entry.first) out.old result out.new }

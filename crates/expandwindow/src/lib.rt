@@ -28,7 +28,7 @@ fn check(peak: &[u32], ids: &[u32], times: &[f32], e: RtExpandParams) -> Result<
     if !(e.is_sound() & numeric::inner::all_in_range(times, limits::MAX_SECONDS)) {
         return Err(Refusal::Value);
     }
-    if !(params::inner::is_rising(ids) & rttime::inner::never_falls(times)) {
+    if !rttime::inner::rising_axes(ids, times) {
         return Err(Refusal::Order);
     }
     if !record::inner::all_sound(peak) {

@@ -1,5 +1,5 @@
 -- Laws of a trace that a loop reads from the front.
-use mathlib.Core.Path.{◌≡◌, refl, sym}
+use mathlib.Core.Path.{◌≡◌, refl, sym, ap}
 use mathlib.Core.Bool.{Bool, true, false, cond}
 use mathlib.Core.List.{List, [], ◌∷◌}
 use Prim.Native.Nat.{ℕ, suc, ◌≤◌, ◌<◌, ◌+◌}
@@ -7,14 +7,15 @@ use native.Mathlib.Numerals.{add-one}
 use native.Mathlib.Omega.{arith}
 use lib.ListN.{length}
 use lib.Ieee.{Float, lt, le, of_bits}
-use Rattle.numeric.specs.Arith.{◌⊕◌, ◌⊗◌, index_f}
+use Rattle.numeric.specs.Arith.{◌⊕◌, ◌⊗◌, 𝟎, index_f}
 use Rattle.apex.specs.Apex.{least}
-use Rattle.record.specs.declared.ImPeak1D.{ImPeak1D}
-use Rattle.fallback.specs.Fallback.{top_from, top_of, sums_from, fallback_of}
+use Rattle.fallback.specs.Fallback.{top_from, top_of, sums_from}
 use Rattle.fallback.specs.declared.inner.Top.{Top}
 use Rattle.fallback.specs.declared.inner.Sums.{Sums}
 use Rattle.std.specs.List.{fold, enumerate_from}
-use Rattle.std.specs.Prelude.{None}
+use Rattle.std.specs.Prelude.{Some, None, is_some}
+use Rattle.std.specs.Option.{unwrap_or}
+use Rattle.refusal.proofs.Bools.{clash}
 
 -- ---- the highest reading
 
@@ -62,9 +63,19 @@ unfolding least
 least-fold [] m = refl
 least-fold (v ∷ vs) m = least-fold vs (cond (lt v m) v m)
 
--- ---- an empty trace has no peak
+-- ---- a trace with a reading above 0 is not empty
 
-pub none-of-none : (y : List Float) (ids : List ℕ) (t : List Float) (p : ImPeak1D) (frac : Float) (id : ℕ) → length y ≡ 0 → None ≡ fallback_of y ids t p frac id
-unfolding fallback_of top_from le of_bits
-none-of-none [] ids t p frac id h = refl
-none-of-none (v ∷ vs) ids t p frac id h = absurd (omega arith)
+pub some-reading : (y : List Float) → le (top_of y).height 𝟎 ≡ false → 0 < length y
+unfolding top_from le of_bits
+some-reading [] h = clash (le (top_of []).height 𝟎) refl h
+some-reading (v ∷ vs) h = omega arith
+
+-- ---- the highest reading, if one is above 0
+
+pub some-top : (b : Bool) (t x : Top) → Some x ≡ cond b None (Some t) → (b ≡ false) × (x ≡ t)
+some-top true t x e = clash false (sym (ap is_some e)) refl
+some-top false t x e = (refl, ap (λ o. unwrap_or o t) e)
+
+pub no-top : (b : Bool) (t : Top) → None ≡ cond b None (Some t) → b ≡ true
+no-top true t e = refl
+no-top false t e = clash false (ap is_some e) refl

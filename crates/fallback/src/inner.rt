@@ -1,5 +1,7 @@
 // Steps over a trace that the caller has checked.
-ghost use Rattle.std.specs.Prelude.{◌≡◌, ◌≤◌, ◌<◌, length};
+ghost use Rattle.std.specs.Prelude.{◌≡◌, cond, Some, None, ◌≤◌, ◌<◌, length};
+ghost use Rattle.std.specs.Float.Ieee.{le};
+ghost use Rattle.numeric.specs.Arith.{𝟎};
 ghost use Rattle.limits.specs.Limits.{exact_index};
 ghost use Rattle.apex.specs.Apex.{least};
 ghost use Rattle.fallback.specs.Fallback.{∞, top_of, sums_of, centroid, time_of, number_at, bounds_of, apex_of, fallback_of};
@@ -17,39 +19,37 @@ pub struct Top {
 }
 
 // The sum of the readings, and of each times its place.
-#[derive(Clone, Copy)]
+#[derive(Clone, Copy, Default)]
 pub struct Sums {
     pub mass: f32,
     pub moment: f32,
 }
 
-// The highest reading above 0: of equal ones the first, of none the height 0.
-fn top_of(y: &[f32]) -> Top
-    ensures { result ≡ top_of y.now }
+// The highest reading above 0, of equal ones the first. No `then_some`: its test would be that the height is above 0, the opposite of the
+// one below only for a height that is no NaN.
+fn top_of(y: &[f32]) -> Option<Top>
+    ensures { result ≡ cond (le (top_of y.now).height 𝟎) None (Some (top_of y.now)) }
 {
-    let none = Top {
+    let start = Top {
         place: 0,
         height: 0.0,
     };
-    y.iter().enumerate().fold(none, |top, (place, &height)| {
+    let top = y.iter().enumerate().fold(start, |top, (place, &height)| {
         if height > top.height {
             Top { place, height }
         } else {
             top
         }
-    })
+    });
+    if top.height <= 0.0 { None } else { Some(top) }
 }
 
 fn sums_of(y: &[f32]) -> Sums
     requires { length y.now ≤ exact_index }
     ensures { result ≡ sums_of y.now }
 {
-    let none = Sums {
-        mass: 0.0,
-        moment: 0.0,
-    };
     y.iter().enumerate().fold(
-        none,
+        Sums::default(),
         |s, (i, &v)| Sums {
             mass: s.mass + v,
             moment: s.moment + numeric::inner::of_index(i) * v,
@@ -160,13 +160,7 @@ pub fn fallback_rt_peak_from_trace(
     requires { (length trace.now ≤ exact_index) × (0 < length trace.now → 0 < length times.now) }
     ensures { result ≡ fallback_of trace.now ids.now times.now p frac id }
 {
-    if trace.is_empty() {
-        return None;
-    }
-    let top = top_of(trace);
-    if top.height <= 0.0 {
-        return None;
-    }
+    let top = top_of(trace)?;
     let threshold = frac * top.height;
     let place = top.place;
     let reach = spans::inner::reach_of(Level {

@@ -7,14 +7,14 @@ ghost use Rattle.std.specs.Prelude.{◌≡◌, ◌≤◌, length};
 ghost use Rattle.refusal.specs.Answers.{answer_by};
 ghost use Rattle.refusal.specs.Numbered.{number_in, says};
 ghost use Rattle.rtrecord.specs.RtRecord.{rt_size};
-ghost use Rattle.fallback.specs.FallbackNumber.{fallback_lengths, fallback_sizes, fallback_values, fallback_axes, fallback_number};
+ghost use Rattle.fallback.specs.FallbackNumber.{fallback_lengths, fallback_sizes, fallback_values, fallback_number};
 ghost use Rattle.fallback.specs.FallbackNumber.{count_of, with_fallback, fallback_count, fallback_list};
 
 use record::ImPeak1D;
 use refusal::Refusal;
 use rtrecord::{PeakId, RtPeak1D};
 
-// The parts of the numbers 1, 2, 4 and 7.
+// The parts of the numbers 1, 2 and 4.
 #[tactic(auto, unfolding(crate::specs::FallbackNumber::fallback_lengths))]
 fn sound_lengths(trace: &[f32], times: &[f32], peak: &[u32]) -> bool
     ensures { result ≡ fallback_lengths trace.now times.now peak.now }
@@ -39,15 +39,8 @@ fn sound_values(times: &[f32], frac: f32) -> bool
         & numeric::inner::all_in_range(times, limits::MAX_SECONDS)
 }
 
-#[tactic(auto, unfolding(crate::specs::FallbackNumber::fallback_axes))]
-fn sound_axes(ids: &[u32], times: &[f32]) -> bool
-    ensures { result ≡ fallback_axes ids.now times.now }
-{
-    params::inner::is_rising(ids) & rttime::inner::never_falls(times)
-}
-
 // Refuses with the lowest number that applies; `room` is the length of the lent list.
-#[tactic(auto, unfolding(crate::specs::FallbackNumber::fallback_number, refusal::specs::Refusal::first_of))]
+#[tactic(auto, unfolding(crate::specs::FallbackNumber::fallback_number, crate::specs::FallbackNumber::fallback_axes, refusal::specs::Refusal::first_of))]
 fn check(
     trace: &[f32],
     ids: &[u32],
@@ -70,7 +63,7 @@ fn check(
     if !sound_values(times, frac) {
         return Err(Refusal::Value);
     }
-    if !sound_axes(ids, times) {
+    if !rttime::inner::rising_axes(ids, times) {
         return Err(Refusal::Order);
     }
     if !record::inner::is_sound(record::inner::peak_at(peak, 0)) {
@@ -82,7 +75,8 @@ fn check(
     Ok(())
 }
 
-// Writes a peak, if there is one, to the front of `out`, and answers how many there are.
+// Writes a peak, if there is one, to the front of `out`, and answers how many there are. A `match`: by `map_or` the write to `out` would
+// stand in a closure that holds the lent list.
 fn put_answer(out: &mut [u32], f: Option<RtPeak1D>) -> usize
     requires { rt_size ≤ length out.old }
     ensures count { result ≡ count_of f }
@@ -99,7 +93,8 @@ fn put_answer(out: &mut [u32], f: Option<RtPeak1D>) -> usize
 
 // Writes the record of a trace's peak, if it has one, to the front of `out` and answers how many it has, or refuses it and leaves
 // `out` as it is. `peak` is the record of the mobility peak that the trace belongs to; an empty list of frame numbers means that there
-// are none, and the peak's own are taken.
+// are none, and the peak's own are taken. The lists stand one by one: each goes to `check` and to the step once, with the words of a peak
+// to the one and the peak to the other.
 pub fn fallback_rt_peak_from_trace(
     trace: &[f32],
     ids: &[u32],

@@ -1,7 +1,8 @@
 // The lists of a frame: its points, and what is lent for its part of an index.
 
-// The TOF value, the absolute scan and the reading of each point. That they are as many is no ghost field: an
-// entry fills the struct before it compares them.
+// The TOF value, the absolute scan and the reading of each point. That they are as many is no invariant: an entry fills the struct before
+// it compares them. Beside it a checked one would hold the same three lists for two functions, `put_view` and `put_sorted`. What these ask
+// of a view and of scratch is how many points there are, which lie in another struct.
 #[derive(Clone, Copy)]
 pub struct Points<'a> {
     pub tofs: &'a [u32],

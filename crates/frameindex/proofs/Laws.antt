@@ -1,37 +1,49 @@
 -- What a sound index has: starts and offsets that climb to their counts, and bins that rise within a frame.
-use mathlib.Core.Path.{◌≡◌, refl, ap, ◌∙◌}
+use mathlib.Core.Path.{◌≡◌, refl, sym, ap, ◌∙◌}
 use mathlib.Core.Bool.{Bool, true, false, ◌&&◌}
-use mathlib.Core.List.{List, [], ◌∷◌}
+use mathlib.Core.List.{List, [], ◌∷◌, map}
 use Prim.Native.Nat.{ℕ, zero, suc, ◌≤◌, ◌<◌, ◌+◌, ◌-◌}
 use native.Mathlib.Numerals.{add-one, sub-one}
 use native.Mathlib.Omega.{arith}
 use borrow.Author.Tests.{leb-true, ltb-true, ltb-false, eqb-true, lt-ltb, le-ltb}
 use lib.Dec.{leb, ltb, eqb}
-use lib.ListN.{length, get_or, drop, length-drop, drop_of_length-le}
-use lib.Seq.{drop-cons, get_or-take, get_or-drop, length-take-le}
+use lib.ListN.{length, get_or, drop, length-drop}
+use lib.Seq.{get_or-take, get_or-drop, length-take-le}
 use Rattle.refusal.proofs.Bools.{clash, both, all4}
 use Rattle.limits.specs.Limits.{last_row}
-use Rattle.params.specs.Params.{all_up_to, rising, rising_from}
+use Rattle.params.specs.Params.{all_neighbours, all_up_to, rising, rising_from}
+use Rattle.std.specs.List.{fold, zip}
+use Rattle.std.proofs.Math.Bool.{and_assoc, and-true}
 use Rattle.frameindex.specs.FrameIndex.{climbs_from, climbs_to, bins_between, frames_rise_from, frames_rise, sound_lists}
 
--- ---- reading from the front
+-- ---- read as folds
 
-pub climbs-step : (n s : ℕ) (l : List ℕ) (i : ℕ) → i < length l → climbs_from n s (drop i l) ≡ (leb s (get_or l i 0) && climbs_from n (get_or l i 0) (drop (i + 1) l))
+-- each number beside the one before it, and the last one
+climbs-from-fold : (n s : ℕ) (l : List ℕ) (all : Bool)
+    → (fold (λ (all : Bool) (p : ℕ × ℕ). all && leb p.0 p.1) all (zip (s ∷ l) l) && eqb (get_or (s ∷ l) (length l) 0) n) ≡ (all && climbs_from n s l)
 unfolding climbs_from
-climbs-step n s l i h = rw (add-one, drop-cons l i 0)
+climbs-from-fold n s [] all = refl
+climbs-from-fold n s (t ∷ l) all = climbs-from-fold n t l (all && leb s t) ∙ and_assoc all (leb s t) (climbs_from n t l)
 
-pub climbs-end : (n s : ℕ) (l : List ℕ) (i : ℕ) → length l ≤ i → climbs_from n s (drop i l) ≡ eqb s n
-unfolding climbs_from
-climbs-end n s l i h = rw (drop_of_length-le l h)
+pub climbs-fold : (n : ℕ) (l rest : List ℕ) (s : ℕ) → l ≡ s ∷ rest
+    → ((eqb s 0 && all_neighbours leb l) && eqb (get_or l (length rest) 0) n) ≡ climbs_to n l
+unfolding climbs_to
+climbs-fold n l rest s e = rw e
+    (and_assoc (eqb s 0) (fold (λ (all : Bool) (p : ℕ × ℕ). all && leb p.0 p.1) true (zip (s ∷ rest) rest)) (eqb (get_or (s ∷ rest) (length rest) 0) n)
+    ∙ ap (λ (b : Bool). eqb s 0 && b) (climbs-from-fold n s rest true))
 
-pub frames-step : (bins : List ℕ) (s : ℕ) (l : List ℕ) (i : ℕ) → i < length l
-    → frames_rise_from bins s (drop i l) ≡ (rising (bins_between bins s (get_or l i 0)) && frames_rise_from bins (get_or l i 0) (drop (i + 1) l))
+-- the bins of each frame
+frames-from-fold : (bins : List ℕ) (s : ℕ) (l : List ℕ) (all : Bool)
+    → fold (λ (all : Bool) (rise : Bool). all && rise) all (map (λ (p : ℕ × ℕ). rising (bins_between bins p.0 p.1)) (zip (s ∷ l) l)) ≡ (all && frames_rise_from bins s l)
 unfolding frames_rise_from
-frames-step bins s l i h = rw (add-one, drop-cons l i 0)
+frames-from-fold bins s [] all = sym (and-true all)
+frames-from-fold bins s (t ∷ l) all =
+    frames-from-fold bins t l (all && rising (bins_between bins s t)) ∙ and_assoc all (rising (bins_between bins s t)) (frames_rise_from bins t l)
 
-pub frames-end : (bins : List ℕ) (s : ℕ) (l : List ℕ) (i : ℕ) → length l ≤ i → frames_rise_from bins s (drop i l) ≡ true
-unfolding frames_rise_from
-frames-end bins s l i h = rw (drop_of_length-le l h)
+pub frames-fold : (bins l rest : List ℕ) (s : ℕ) → l ≡ s ∷ rest
+    → fold (λ (all : Bool) (rise : Bool). all && rise) true (map (λ (p : ℕ × ℕ). rising (bins_between bins p.0 p.1)) (zip l rest)) ≡ frames_rise bins l
+unfolding frames_rise
+frames-fold bins l rest s e = rw e (frames-from-fold bins s rest true)
 
 -- ---- lists that climb
 
@@ -69,12 +81,16 @@ pub climbs_tail : (n s : ℕ) (l : List ℕ) → climbs_to n (s ∷ l) ≡ true 
 unfolding climbs_to
 climbs_tail n s l h = (both (eqb s 0) h).1
 
--- of those from place i on the next is not below s nor above n, and the rest climb from it
-pub climbs-next : (n s : ℕ) (l : List ℕ) (i : ℕ) → climbs_from n s (drop i l) ≡ true → i < length l
-    → (s ≤ get_or l i 0) × (get_or l i 0 ≤ n) × (climbs_from n (get_or l i 0) (drop (i + 1) l) ≡ true)
-climbs-next n s l i h k =
-    let x = get_or l i 0 in
-    let b = both (leb s x) (rw (climbs-step n s l i k) at h) in (leb-true s x b.0, from-most n x (drop (i + 1) l) b.1, b.1)
+-- of neighbours the later one is not below the other, nor above n
+pairs-from : (n s : ℕ) (l : List ℕ) (k : ℕ) (p : ℕ × ℕ) → climbs_from n s l ≡ true → k < length (zip (s ∷ l) l) → p ≡ get_or (zip (s ∷ l) l) k p → (p.0 ≤ p.1) × (p.1 ≤ n)
+unfolding climbs_from
+pairs-from n s [] k p h m e = absurd (omega arith)
+pairs-from n s (t ∷ l) zero p h m e = let b = both (leb s t) h in rw e (leb-true s t b.0, from-most n t l b.1)
+pairs-from n s (t ∷ l) (suc k) p h m e = pairs-from n t l k p (both (leb s t) h).1 (omega arith) e
+
+pub climbs-pairs : (n : ℕ) (l rest : List ℕ) (s k : ℕ) (p : ℕ × ℕ) → climbs_to n l ≡ true → l ≡ s ∷ rest → k < length (zip l rest) → p ≡ get_or (zip l rest) k p → (p.0 ≤ p.1) × (p.1 ≤ n)
+climbs-pairs n l rest s k p h d m e =
+    pairs-from n s rest k p (climbs_tail n s rest (rw d at h)) (rw d at m) (rw d at e)
 
 -- there is one at least, and the first is 0
 pub climbs-some : (n : ℕ) (l : List ℕ) → climbs_to n l ≡ true → 0 < length l

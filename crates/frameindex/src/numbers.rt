@@ -1,5 +1,5 @@
 // The number of a call on an index, by what reading the index shows and by what else the call is asked.
-ghost use Rattle.std.specs.Prelude.{◌≡◌};
+ghost use Rattle.std.specs.Prelude.{◌≡◌, ◌*◌, leb};
 ghost use Rattle.refusal.specs.Numbered.{number_in};
 ghost use Rattle.refusal.specs.Refusal.{first_of};
 ghost use Rattle.frameindex.specs.IndexNumber.{index_checks};
@@ -39,6 +39,13 @@ impl Further {
         scratch: true,
         scale: true,
     };
+}
+
+// Whether n times m is at most `most`, as of sums, records or identities.
+pub fn fits_times(n: usize, m: usize, most: usize) -> bool
+    ensures { result ≡ leb (n * m) most }
+{
+    n.checked_mul(m).is_some_and(|all| all <= most)
 }
 
 // Refuses with the lowest number that applies.

@@ -2,19 +2,20 @@
 use mathlib.Core.Path.{◌≡◌, refl, sym, ap, ◌∙◌}
 use mathlib.Core.Bool.{Bool, true, false, cond, ◌||◌}
 use mathlib.Core.List.{List, [], ◌∷◌, ◌++◌, map-append}
-use Prim.Native.Nat.{ℕ, zero, suc, ◌≤◌, ◌<◌, ◌+◌, ◌-◌, ◌*◌, ◌/◌}
+use Prim.Native.Nat.{ℕ, zero, suc, ◌≤◌, ◌<◌, ◌+◌, ◌-◌, ◌*◌}
 use native.Mathlib.Numerals.{add-one}
 use native.Mathlib.Omega.{arith}
 use borrow.Author.Tests.{le-leb, lt-leb, ltb-true, ltb-false}
 use lib.Dec.{leb, ltb}
 use lib.ListN.{length, get_or, take, drop, set, length-map, length-drop}
-use lib.Seq.{get_or-take, get_or-drop, length-take-le}
-use lib.Ieee.{Float}
+use lib.Seq.{get_or-take, get_or-drop, length-take-le, drop-cons, drop-drop}
+use lib.Ieee.{Float, nan}
 use Rattle.std.specs.Prelude.{Option, Some, None, is_some}
 use Rattle.std.specs.Option.{unwrap_or}
-use Rattle.std.specs.List.{position, position_or_len}
+use Rattle.std.specs.List.{position, position_or_len, fold, zip, list_any}
+use Rattle.std.specs.Simd.{first_chunks}
 use Rattle.std.proofs.lemmas.List.Quantifiers.{position-Some}
-use Rattle.std.proofs.lemmas.List.Sums.{fails_before_first}
+use Rattle.std.proofs.lemmas.List.Sums.{fails_before_first, fold-append}
 use Rattle.refusal.proofs.Bools.{clash, neither}
 use Rattle.numeric.specs.Arith.{◌⊕◌, 𝟎, at}
 use Rattle.digits.specs.Sorted.{up_to}
@@ -23,7 +24,7 @@ use Rattle.frameindex.specs.FrameIndex.{Index, climbs_to, points}
 use Rattle.frameindex.proofs.Laws.{climbs-up, climbs-most, frame-up, sound-parts}
 use Rattle.framesums.specs.declared.inner.Window.{Window}
 use Rattle.framesums.specs.Sums.{in_bins, in_scans, add_points, add_bins, add_frame, frame_sums}
-use Rattle.framesums.specs.Steps.{Checked, Rising, FirstAt, any_in, with_scans, PointsOf}
+use Rattle.framesums.specs.Steps.{Checked, Rising, FirstAt, add_each, with_scans, PointsOf}
 use Rattle.std.proofs.Math.Bool.{or_assoc, or-false, and-false}
 use Rattle.numeric.proofs.Lists.{push}
 
@@ -68,11 +69,15 @@ module _ (ix : Index) (w : Window) where
       let f : a + (b - a) ≡ b = omega arith in
       rw e (points-more (b - a) (d - b) a so ∙ ap (λ (i : ℕ). add_points ix w (d - b) i (add_points ix w (b - a) a so)) f)
 
-  -- points of which none lies in the window
-  pub points-out : (n a : ℕ) (so : Float) → any_in w ix.scans n a ≡ false → add_points ix w n a so ≡ so
-  unfolding add_points any_in
-  points-out zero a so h = refl
-  points-out (suc n) a so h = let e = neither (in_scans w (get_or ix.scans a 0)) h in rw e.0 (points-out n (a + 1) so e.1)
+  -- those of n places from a on are added one by one
+  pub points-each : (n a : ℕ) (so : Float) → a + n ≤ length ix.scans → a + n ≤ length ix.readings
+      → add_points ix w n a so ≡ add_each w so (zip (take n (drop a ix.scans)) (take n (drop a ix.readings)))
+  unfolding add_points
+  points-each zero a so h k = refl
+  points-each (suc n) a so h k =
+      let e : suc a ≡ a + 1 = omega arith in
+      rw (drop-cons ix.scans a 0 (omega arith), drop-cons ix.readings a nan (omega arith), e)
+      (points-each n (a + 1) (cond (in_scans w (get_or ix.scans a 0)) (so ⊕ at ix.readings a) so) (omega arith) (omega arith))
 
   -- ---- bins
 
@@ -139,24 +144,40 @@ module _ (ix : Index) (w : Window) where
       ∙ bins-in (j - i) i m so c (omega arith) (λ k x y. in-bins (get_or ix.bins k 0) (a.high k x (omega arith)) (omega (arith, b.low k x (omega arith))))
       ∙ ap (λ (k : ℕ). add_points ix w (get_or ix.offsets k 0 - get_or ix.offsets i 0) (get_or ix.offsets i 0) so) e
 
--- ---- whether a scan lies in the window
+-- ---- points side by side
 
-any_step : (w : Window) (scans : List ℕ) (n i j : ℕ) → i < n → any_in w scans (n - i) (j + i) ≡ (in_scans w (get_or scans (j + i) 0) || any_in w scans (n - (i + 1)) (j + (i + 1)))
-unfolding any_in
-any_step w scans n i j h =
-    let e : n - i ≡ suc (n - (i + 1)) = omega arith in
-    let k : j + (i + 1) ≡ j + i + 1 = omega arith in
-    rw (e, k)
+zip_none : {A B : Type 0} (xs : List A) → zip {K = A} {X = B} xs [] ≡ []
+zip_none [] = refl
+zip_none (x ∷ xs) = refl
 
-pub any-more : (w : Window) (scans : List ℕ) (n i j : ℕ) (any : Bool) → i < n → any_in w scans n j ≡ (any || any_in w scans (n - i) (j + i))
-    → any_in w scans n j ≡ ((any || in_scans w (get_or scans (j + i) 0)) || any_in w scans (n - (i + 1)) (j + (i + 1)))
-any-more w scans n i j any h e =
-    e ∙ ap (λ (b : Bool). any || b) (any_step w scans n i j h)
-    ∙ sym (or_assoc any (in_scans w (get_or scans (j + i) 0)) (any_in w scans (n - (i + 1)) (j + (i + 1))))
+zip-split : {A B : Type 0} (n : ℕ) (xs : List A) (ys : List B) → zip xs ys ≡ zip (take n xs) (take n ys) ++ zip (drop n xs) (drop n ys)
+zip-split zero xs ys = refl
+zip-split (suc n) [] ys = refl
+zip-split (suc n) (x ∷ xs) [] = sym (zip_none (drop n xs))
+zip-split (suc n) (x ∷ xs) (y ∷ ys) = ap (λ l. (x, y) ∷ l) (zip-split n xs ys)
 
-pub any-end : (w : Window) (scans : List ℕ) (n i j : ℕ) (any : Bool) → n ≤ i → any_in w scans n j ≡ (any || any_in w scans (n - i) (j + i)) → any ≡ any_in w scans n j
-unfolding any_in
-any-end w scans n i j any h e = let z : n - i ≡ 0 = omega arith in sym (or-false any) ∙ sym (rw z at e)
+pub any-fold : {A : Type 0} (t : A → Bool) (xs : List A) (any : Bool) → fold (λ (any : Bool) (x : A). any || t x) any xs ≡ (any || list_any t xs)
+any-fold t [] any = sym (or-false any)
+any-fold t (x ∷ xs) any = any-fold t xs (any || t x) ∙ or_assoc any (t x) (list_any t xs)
+
+module _ (w : Window) where
+  -- points of which none lies in the window add nothing
+  pub each-out : (scans : List ℕ) (readings : List Float) (so : Float) → list_any (in_scans w) scans ≡ false → add_each w so (zip scans readings) ≡ so
+  each-out [] readings so h = refl
+  each-out (s ∷ scans) [] so h = refl
+  each-out (s ∷ scans) (r ∷ readings) so h = let e = neither (in_scans w s) h in ap (λ (b : Bool). add_each w (cond b (so ⊕ r) so) (zip scans readings)) e.0 ∙ each-out scans readings so e.1
+
+  -- run after run of n points, and then those behind the last run
+  pub each-runs : (n k : ℕ) (scans : List ℕ) (readings : List Float) (so : Float)
+      → add_each w (fold (λ (sum : Float) (p : List ℕ × List Float). add_each w sum (zip p.0 p.1)) so (zip (first_chunks n k scans) (first_chunks n k readings)))
+      (zip (drop (k * n) scans) (drop (k * n) readings))
+      ≡ add_each w so (zip scans readings)
+  each-runs n zero scans readings so = let e : 0 * n ≡ 0 = omega arith in rw e refl
+  each-runs n (suc k) scans readings so =
+      let e : suc k * n ≡ n + k * n = omega arith in
+      rw (e, sym (drop-drop (k * n) n scans), sym (drop-drop (k * n) n readings))
+      (each-runs n k (drop n scans) (drop n readings) (add_each w so (zip (take n scans) (take n readings)))
+      ∙ sym (ap (add_each w so) (zip-split n scans readings) ∙ fold-append _ so (zip (take n scans) (take n readings)) (zip (drop n scans) (drop n readings))))
 
 -- ---- the search
 

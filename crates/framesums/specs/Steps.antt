@@ -1,5 +1,7 @@
 -- What the steps of a sum ask of an index and find in it.
-use Rattle.std.specs.Prelude.{◌≡◌, Bool, false, ◌||◌, List, ℕ, zero, suc, ◌+◌, ◌-◌, ◌≤◌, ◌<◌, get_or, Float}
+use Rattle.std.specs.Prelude.{◌≡◌, cond, List, ℕ, ◌-◌, ◌≤◌, ◌<◌, get_or, Float}
+use Rattle.std.specs.List.{fold}
+use Rattle.numeric.specs.Arith.{◌⊕◌}
 pub use Rattle.frameindex.specs.FrameIndex.{index_of, Checked}
 use Rattle.frameindex.specs.FrameIndex.{Index, points}
 use Rattle.framesums.specs.declared.inner.Window.{Window}
@@ -17,10 +19,9 @@ pub record FirstAt (bins : List ℕ) (from to x r : ℕ) : Type 0 where
   pub low : (j : ℕ) → from ≤ j → j < r → get_or bins j 0 < x
   pub high : (j : ℕ) → r ≤ j → j < to → x ≤ get_or bins j 0
 
--- one of n scans from place a on lies in the window
-unfoldable pub any_in : Window → List ℕ → ℕ → ℕ → Bool
-any_in w scans zero a = false
-any_in w scans (suc n) a = in_scans w (get_or scans a 0) || any_in w scans n (a + 1)
+-- of points side by side, each a scan and a reading, the readings whose scans lie in the window, added to `so` one by one
+abbrev pub add_each : Window → Float → List (ℕ × Float) → Float
+add_each w so points = fold (λ (sum : Float) (p : ℕ × Float). cond (in_scans w p.0) (sum ⊕ p.1) sum) so points
 
 -- a window's bins with other scans
 abbrev pub with_scans : Window → ℕ → ℕ → Window

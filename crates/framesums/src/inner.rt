@@ -1,9 +1,9 @@
 // Sums over the points of a checked index: those of a frame whose bins lie in a window stand side by side.
 ghost use Rattle.std.specs.Prelude.{◌≡◌, List, cond, ◌++◌, ℕ, ◌≤◌, ◌<◌, ◌+◌, ◌-◌, ltb, length, get_or, drop};
-ghost use Rattle.std.specs.List.{position};
+ghost use Rattle.std.specs.List.{position, list_any, zip};
 ghost use Rattle.framesums.specs.Sums.{in_scans, add_points, add_frame, frame_sums};
 ghost use Rattle.frameindex.specs.FrameIndex.{index_of};
-ghost use Rattle.framesums.specs.Steps.{Rising, FirstAt, any_in, PointsOf};
+ghost use Rattle.framesums.specs.Steps.{Rising, FirstAt, add_each, PointsOf};
 
 use frameindex::CheckedIndex;
 
@@ -24,11 +24,19 @@ impl Window {
     }
 }
 
-// Points from a place on, before another.
+// Points from a place on, before another. No `Range`, which is not `Copy`: two columns are cut by one span.
 #[derive(Clone, Copy)]
 pub struct Span {
     pub from: usize,
     pub to: usize,
+}
+
+// Frames of the run, side by side: `count` of them from place `from` on. A count, since as many sums are written. The range knows no index:
+// that it ends within one is a clause of each function that is handed both, and speaks of the starts of that index.
+#[derive(Clone, Copy)]
+pub struct FrameRange {
+    pub from: usize,
+    pub count: usize,
 }
 
 // 1 where a is below b, and else 0; reckoned, since by `(a < b) as usize` the compiler makes the search branch on it, and many traces over
@@ -75,7 +83,8 @@ pub fn first_above(bins: &[u32], from: usize, to: usize, x: u32) -> usize
     from + place_above(&bins[from..to], x).unwrap_or(to - from)
 }
 
-// The points of frame f whose bins lie in the window.
+// The points of frame f whose bins lie in the window. `span_from` of nearsums ends alike, in two lines; what a function of these two would
+// ask, two places and what stands before each, is longer than they are.
 pub fn span_of(ix: &CheckedIndex, f: usize, w: Window) -> Span
     requires { f + 1 < length ix.now.starts }
     ensures { PointsOf ix.now w f result }
@@ -91,49 +100,45 @@ pub fn span_of(ix: &CheckedIndex, f: usize, w: Window) -> Span
     }
 }
 
-// Adds the readings of a span whose scans lie in the window, point by point, whatever bins and frames they are of.
-fn add_each(scans: &[u32], readings: &[f32], p: Span, w: Window, so: f32) -> f32
-    requires { (p.from ≤ p.to) × (p.to ≤ length scans.now) × (length readings.now ≡ length scans.now) }
-    ensures { (starts bins offsets : List ℕ) → result ≡ add_points (index_of starts bins offsets scans.now readings.now) w (p.to - p.from) p.from so }
+// Adds the readings whose scans lie in the window, point by point.
+fn add_each(scans: &[u32], readings: &[f32], w: Window, so: f32) -> f32
+    ensures { result ≡ add_each w so (zip scans.now readings.now) }
 {
-    let mut sum = so;
-    for (&scan, &reading) in scans[p.from..p.to].iter().zip(&readings[p.from..p.to]) {
-        if w.has_scan(scan) {
-            sum += reading;
-        }
-    }
-    sum
+    scans
+        .iter()
+        .zip(readings)
+        .fold(so, |sum, (&scan, &reading)| {
+            if w.has_scan(scan) { sum + reading } else { sum }
+        })
 }
 
-// Whether one of eight scans from place j on lies in the window.
-fn any_of_eight(scans: &[u32], j: usize, w: Window) -> bool
-    requires { j + 8 ≤ length scans.now }
-    ensures { result ≡ any_in w scans.now 8 j }
+// Whether one of some scans lies in the window: all are looked at, many at once.
+fn any_in(scans: &[u32], w: Window) -> bool
+    ensures { result ≡ list_any (in_scans w) scans.now }
 {
-    let mut any = false;
-    for &scan in &scans[j..j + 8] {
-        any |= w.has_scan(scan);
-    }
-    any
+    scans
+        .iter()
+        .fold(false, |any, &scan| any | w.has_scan(scan))
 }
 
-// The same as point by point; eight points are passed over at a time where none of them lies in the window. The loop goes by eights and
-// leaves its place to the rest, which a `for` over `step_by(8)` would reckon again.
+// The same as point by point, for the points of a span; eight points are passed over at a time where none of them lies in the window.
 pub fn add_points(scans: &[u32], readings: &[f32], p: Span, w: Window, so: f32) -> f32
     requires { (p.from ≤ p.to) × (p.to ≤ length scans.now) × (length readings.now ≡ length scans.now) }
     ensures { (starts bins offsets : List ℕ) → result ≡ add_points (index_of starts bins offsets scans.now readings.now) w (p.to - p.from) p.from so }
 {
-    let mut sum = so;
-    let mut j = p.from;
-    while p.to - j >= 8 {
-        if any_of_eight(scans, j, w) {
-            let eight = Span { from: j, to: j + 8 };
-            sum = add_each(scans, readings, eight, w, sum);
-        }
-        j += 8;
-    }
-    let rest = Span { from: j, to: p.to };
-    add_each(scans, readings, rest, w, sum)
+    let (eights, rest) = scans[p.from..p.to].as_chunks::<8>();
+    let (their_eights, their_rest) = readings[p.from..p.to].as_chunks::<8>();
+    let sum = eights
+        .iter()
+        .zip(their_eights)
+        .fold(so, |sum, (eight, theirs)| {
+            if any_in(eight, w) {
+                add_each(eight, theirs, w, sum)
+            } else {
+                sum
+            }
+        });
+    add_each(rest, their_rest, w, sum)
 }
 
 // Adds the readings of frame f whose bin and scan lie in the window.
@@ -145,13 +150,13 @@ pub fn add_frame(ix: &CheckedIndex, f: usize, w: Window, so: f32) -> f32
     add_points(ix.scans, ix.readings, p, w, so)
 }
 
-// A sum for each of n frames.
-pub fn put_frame_sums(ix: &CheckedIndex, from: usize, n: usize, w: Window, out: &mut [f32])
-    requires { (from + n < length ix.now.starts) × (n ≤ length out.old) }
-    ensures { out.new ≡ frame_sums ix.now w from n ++ drop n out.old }
+// A sum for each of some frames.
+pub fn put_frame_sums(ix: &CheckedIndex, frames: FrameRange, w: Window, out: &mut [f32])
+    requires { (frames.from + frames.count < length ix.now.starts) × (frames.count ≤ length out.old) }
+    ensures { out.new ≡ frame_sums ix.now w frames.from frames.count ++ drop frames.count out.old }
 {
-    prove!(from < ix.starts.len());
-    for (k, sum) in out[..n].iter_mut().enumerate() {
-        *sum = add_frame(ix, from + k, w, 0.0);
+    prove!(frames.from < ix.starts.len());
+    for (k, sum) in out[..frames.count].iter_mut().enumerate() {
+        *sum = add_frame(ix, frames.from + k, w, 0.0);
     }
 }

@@ -47,10 +47,10 @@ fn sound_values(step: u32, count: u32) -> bool
     tof::inner::sound_step(step) & (count <= limits::MAX_SCAN)
 }
 
-fn sound_axes(tofs: bool, scans: bool, scale: TofScale) -> bool
-    ensures { result ≡ (tofs && scans && sound_ends scale) }
+fn sound_axes(s: Seen, scale: TofScale) -> bool
+    ensures { result ≡ (s.sound_tofs && s.sound_scans && sound_ends scale) }
 {
-    tofs & scans & tof::inner::sound_ends(scale)
+    s.sound_tofs & s.sound_scans & tof::inner::sound_ends(scale)
 }
 
 fn is_narrow(n: usize, room: Room) -> bool
@@ -82,7 +82,7 @@ pub fn check(s: Seen, count: u32, base: usize, scale: TofScale, room: Room) -> R
     if !sound_values(scale.tof_step, count) {
         return Err(Refusal::Value);
     }
-    if !sound_axes(s.sound_tofs, s.sound_scans, scale) {
+    if !sound_axes(s, scale) {
         return Err(Refusal::Axis);
     }
     if is_narrow(s.tofs, room) {

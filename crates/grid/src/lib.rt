@@ -30,7 +30,8 @@ fn sound_weights(weights: &[f32]) -> bool
     weights.is_empty() | smoothing::inner::sound_weights(weights)
 }
 
-// Reads the lists of a grid.
+// Reads the lists of a grid. That of lists in bytes is in capi, with the tests of wordbytes: a reader over row's `Column` would need tests
+// over it besides.
 fn see(raw: &[f32], smooth: &[f32], scans: &[u32], mobility: &[f32], weights: &[f32]) -> Seen
     ensures { result ≡ seen_in (used_of raw.now smooth.now) scans.now mobility.now weights.now }
 {

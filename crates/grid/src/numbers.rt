@@ -9,7 +9,6 @@ ghost use Rattle.grid.specs.GridNumber.{checks_of};
 use gridrows::call::Terms;
 use record::ImPeak1D;
 use refusal::Refusal;
-use tof::TofScale;
 
 // What reading the lists of a grid shows: how long they are, and whether what they hold is in range. A flag for each number that a list
 // decides: the lists are read as words or as bytes, and one check takes what either reading saw.
@@ -36,13 +35,13 @@ fn is_product(len: usize, rows: usize, cols: usize) -> bool
 }
 
 // The parts of the numbers 1, 4 and 5.
-fn same_sizes(s: Seen, rows: usize, cols: usize, bins: u32) -> bool
-    ensures { result ≡ (eqb s.readings (rows * cols) && eqb s.scans cols && (eqb s.mobility 0 || eqb s.mobility cols) && eqb rows bins) }
+fn same_sizes(s: Seen, rows: usize, t: Terms) -> bool
+    ensures { result ≡ (eqb s.readings (rows * t.cols) && eqb s.scans t.cols && (eqb s.mobility 0 || eqb s.mobility t.cols) && eqb rows t.scale.num_bins) }
 {
-    is_product(s.readings, rows, cols)
-        & (s.scans == cols)
-        & ((s.mobility == 0) | (s.mobility == cols))
-        & (rows == bins as usize)
+    is_product(s.readings, rows, t.cols)
+        & (s.scans == t.cols)
+        & ((s.mobility == 0) | (s.mobility == t.cols))
+        & (rows == t.scale.num_bins as usize)
 }
 
 fn sound_values(s: Seen, t: Terms, peaks: usize) -> bool
@@ -55,10 +54,10 @@ fn sound_values(s: Seen, t: Terms, peaks: usize) -> bool
         & params::inner::enough_ids(t.first, peaks)
 }
 
-fn sound_axis(scans: bool, scale: TofScale) -> bool
-    ensures { result ≡ (scans && sound_ends scale) }
+fn sound_axis(s: Seen, t: Terms) -> bool
+    ensures { result ≡ (s.sound_scans && sound_ends t.scale) }
 {
-    scans & tof::inner::sound_ends(scale)
+    s.sound_scans & tof::inner::sound_ends(t.scale)
 }
 
 // Refuses with the lowest number that applies; `room` and `space` are the lengths of the lent list and of the lent scratch.
@@ -66,21 +65,20 @@ fn sound_axis(scans: bool, scale: TofScale) -> bool
 pub fn check(s: Seen, rows: usize, t: Terms, room: usize, space: usize) -> Result<(), Refusal>
     ensures { number_in result ≡ first_of (checks_of s rows t.cols t.scale t.bounds t.params t.first room space) }
 {
-    let cols = t.cols;
-    if !same_sizes(s, rows, cols, t.scale.num_bins) {
+    if !same_sizes(s, rows, t) {
         return Err(Refusal::Lengths);
     }
-    if (rows > limits::MAX_ROWS) | (cols > limits::MAX_SAMPLES) {
+    if (rows > limits::MAX_ROWS) | (t.cols > limits::MAX_SAMPLES) {
         return Err(Refusal::Size);
     }
     if !s.sound_readings {
         return Err(Refusal::Reading);
     }
-    let peaks = rows * params::inner::most_peaks(cols);
+    let peaks = rows * params::inner::most_peaks(t.cols);
     if !sound_values(s, t, peaks) {
         return Err(Refusal::Value);
     }
-    if !sound_axis(s.sound_scans, t.scale) {
+    if !sound_axis(s, t) {
         return Err(Refusal::Axis);
     }
     if !s.sound_weights {
@@ -92,7 +90,7 @@ pub fn check(s: Seen, rows: usize, t: Terms, room: usize, space: usize) -> Resul
     if room < peaks * ImPeak1D::WORDS {
         return Err(Refusal::Room);
     }
-    if space < cols {
+    if space < t.cols {
         return Err(Refusal::Scratch);
     }
     if !tof::inner::agrees(t.scale) {

@@ -1,6 +1,6 @@
 -- Laws of detection over the rows of a grid.
 use mathlib.Core.Path.{◌≡◌, refl, sym, ap, ◌∙◌}
-use mathlib.Core.Bool.{Bool, true, false, cond, ◌||◌}
+use mathlib.Core.Bool.{Bool, true, false, ◌||◌}
 use mathlib.Core.List.{List, [], ◌++◌, append_assoc, append-nil}
 use Prim.Native.Nat.{ℕ, zero, suc, ◌+◌, ◌-◌, ◌*◌, ◌%◌, ◌^◌, ◌≤◌, ◌<◌}
 use native.Mathlib.Nat.{mul-le-mul_right, add-mul, add-zero, zero-mul, mul-zero, mul_assoc}
@@ -30,17 +30,9 @@ use Rattle.row.specs.Written.{Written, stride}
 use Rattle.row.proofs.Laws.{put-none, put-length}
 use Rattle.row.proofs.Laws as rows
 use Rattle.tof.specs.Tof.{row_place}
-use Rattle.gridrows.specs.Grid.{Grid, used_of, row_of, listed_in, words_in, count_from, words_from}
+use Rattle.gridrows.specs.Grid.{Grid, row_of, listed_in, words_in, count_from, words_from}
 use Rattle.gridrows.specs.Steps.{Handed, RowPut, RowReady, RowDone, Ready, Done, numbered}
 use Rattle.numeric.proofs.Laws.{product-step}
-
--- ---- which readings are worked on
-pub used_le : (raw smooth : List Float) → length (used_of raw smooth) ≤ length raw + length smooth
-used_le raw smooth = go (eqb (length raw) 0)
-  where
-    go : (b : Bool) → length (cond b smooth raw) ≤ length raw + length smooth
-    go true = omega arith
-    go false = omega arith
 
 -- ---- one row
 

@@ -14,7 +14,8 @@ pub struct Terms {
     pub first: PeakId,
 }
 
-// The readings row after row, raw ones or none and smoothed ones, the scan of each column, and the mobility of each column or none.
+// The readings row after row, raw ones or none and smoothed ones, the scan of each column, and the mobility of each column or none. Raw and
+// smoothed readings stay two lists, of which `row_part` takes one: so document 01 has it.
 #[derive(Clone, Copy)]
 pub struct GridCall<'a> {
     pub raw: &'a [f32],

@@ -5,7 +5,7 @@ ghost use Rattle.gridrows.specs.Steps.{grid_in, with_weights, numbered, Handed, 
 ghost use Rattle.gridrows.specs.Lent.{Lent, SameRowScratch};
 ghost use Rattle.rowsearch.specs.SameLists.{SameLists};
 
-use super::call::GridCall;
+use super::call::{GridCall, Terms};
 use super::lent::RowScratch;
 use super::source::Source;
 use params::ImDetectParams;
@@ -43,12 +43,8 @@ impl<'a> Source for GridCall<'a> {
 
     ghost Reads = { λ c r z. length z ≡ 0 };
 
-    fn params(&self) -> ImDetectParams {
-        self.terms.params
-    }
-
-    fn first(&self) -> PeakId {
-        self.terms.first
+    fn terms(&self) -> Terms {
+        self.terms
     }
 
     fn read(&self, _r: usize, _z: &mut [f32]) {}
@@ -68,7 +64,8 @@ impl<'a> Source for GridCall<'a> {
 }
 
 // Writes the records of the peaks of a row, smoothed into `y` where weights are given, to the front of `out`, and answers how many there
-// are.
+// are. What the row is searched with, what is written and what is lent stay apart: a struct of them would serve `detect_row` alone, whose
+// own parameters are apart.
 fn list_row<M: Column<f32>, S: Column<u32>, W: Written>(
     row: &Row<'_, M, S>,
     p: ImDetectParams,

@@ -4,6 +4,7 @@ ghost use Rattle.tof.specs.Tof.{row_place};
 ghost use Rattle.gridrows.specs.Grid.{Grid, row_of};
 ghost use Rattle.gridrows.specs.Steps.{Held};
 
+use super::call::Terms;
 use params::ImDetectParams;
 use record::PeakId;
 use row::column::Column;
@@ -24,11 +25,22 @@ pub trait Source {
 
     ghost Reads: { Self → ℕ → List Float → Type 0 };
 
+    // What the grid has besides its lists.
+    fn terms(&self) -> Terms
+        ensures params { result.params ≡ (grid self.now).params }
+        ensures first { result.first ≡ (grid self.now).first };
+
     fn params(&self) -> ImDetectParams
-        ensures { result ≡ (grid self.now).params };
+        ensures { result ≡ (grid self.now).params }
+    {
+        self.terms().params
+    }
 
     fn first(&self) -> PeakId
-        ensures { result ≡ (grid self.now).first };
+        ensures { result ≡ (grid self.now).first }
+    {
+        self.terms().first
+    }
 
     // Reads row r into z, where its readings do not stand in memory as they are.
     fn read(&self, r: usize, z: &mut [f32])

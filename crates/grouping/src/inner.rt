@@ -25,11 +25,7 @@ fn bucket_by(p: ImPeak1D, rule: KeyRule) -> Bucket
 {
     match rule {
         KeyRule::First(params) => Bucket::of(p, params),
-        KeyRule::Second | KeyRule::Identity => Bucket {
-            group: None,
-            scans: 0,
-            rows: 0,
-        },
+        KeyRule::Second | KeyRule::Identity => Bucket::default(),
     }
 }
 

@@ -36,7 +36,7 @@ impl<'a> Model for Reading<'a> {
     ghost invariant = { λ r. r.count ≤ length r.words.now };
 }
 
-// The value of a hexadecimal digit.
+// The value of a hexadecimal digit. `to_digit` takes capital letters as well, which part words here.
 #[tactic(auto, unfolding(crate::specs::Lines::digit_of))]
 fn digit(b: u8) -> Option<u8>
     ensures value { result ≡ digit_of b }
@@ -54,7 +54,7 @@ fn with_digit(word: Option<u32>, d: u8) -> u32
     requires { d < 16 }
     ensures { result ≡ with_digit word d }
 {
-    word.unwrap_or(0) % 0x1000_0000 * 16 + d as u32
+    word.unwrap_or(0) % 0x1000_0000 * 16 + u32::from(d)
 }
 
 impl<'a> Reading<'a> {

@@ -1,6 +1,6 @@
 // Parts of a line. Past the end of a line every word is 0.
-ghost use Rattle.std.specs.Prelude.{◌≡◌, ◌↔◌, ℕ, ◌≤◌, ◌<◌, length, take, slice_index, slice_index_or, IsSome, MatchOption};
-ghost use Rattle.hexlines.specs.Parts.{IsLeft, float_in};
+ghost use Rattle.std.specs.Prelude.{◌≡◌, ◌↔◌, ℕ, ◌≤◌, ◌<◌, length, take, drop, slice_index, slice_index_or, IsSome, MatchOption};
+ghost use Rattle.hexlines.specs.Parts.{IsLeft, float_in, pattern_in, all_are};
 
 pub fn word(words: &[u32], i: usize) -> u32
     ensures { result ≡ slice_index words.now i }
@@ -82,7 +82,24 @@ pub fn front<T>(list: &mut [T], n: usize) -> &mut [T]
     &mut list[..n]
 }
 
-// Words as floats, 0.0 past them.
+// What stands from a place on, nothing past the end.
+pub fn from_place(list: &[u32], from: usize) -> &[u32]
+    ensures { result.now ≡ drop from list.now }
+{
+    list.get(from..).unwrap_or(&[])
+}
+
+// Whether a list holds one word from a place on.
+pub fn kept(list: &[u32], from: usize, before: u32) -> bool
+    ensures { result ≡ all_are before (drop from list.now) }
+{
+    from_place(list, from)
+        .iter()
+        .fold(true, |all, &w| all & (w == before))
+}
+
+// Words as floats, 0.0 past them. A loop: by `array::from_fn` the proof does not close, for the floats are told of as what the closure
+// gives, and that is not read off its body.
 pub fn spread<const ROOM: usize>(words: &[u32]) -> [f32; ROOM]
     ensures { (k : ℕ) → k < ROOM → slice_index_or result k (float_in words.now k) ≡ float_in words.now k }
 {
@@ -91,4 +108,16 @@ pub fn spread<const ROOM: usize>(words: &[u32]) -> [f32; ROOM]
         *x = float(words, i);
     }
     floats
+}
+
+// The bit patterns of floats. A loop: an array's `map` asks that further arrays of ROOM fit in memory, and each caller would have to show
+// it.
+pub fn patterns<const ROOM: usize>(floats: &[f32; ROOM]) -> [u32; ROOM]
+    ensures { (k : ℕ) → k < ROOM → slice_index_or result k (pattern_in floats.now k) ≡ pattern_in floats.now k }
+{
+    let mut words = [0u32; ROOM];
+    for (i, w) in words.iter_mut().enumerate() {
+        *w = numeric::word_of(floats[i]);
+    }
+    words
 }

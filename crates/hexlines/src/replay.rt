@@ -10,7 +10,7 @@ use std::io::Read;
 use std::marker::Model;
 
 // How many lines with words there were, and how many of them differ from what they should say.
-#[derive(Clone, Copy, Debug, PartialEq, Eq)]
+#[derive(Clone, Copy, Debug, Default, PartialEq, Eq)]
 pub struct Tally {
     pub lines: u64,
     pub differ: u64,
@@ -59,10 +59,7 @@ impl<'a> Replay<'a> {
     {
         Replay {
             line: Reading::new(words),
-            tally: Tally {
-                lines: 0,
-                differ: 0,
-            },
+            tally: Tally::default(),
         }
     }
 

@@ -11,7 +11,7 @@ use record::ImPeak1D;
 
 // The bucket of a peak in the first pass: the window group, which is missing where crossing is allowed; which interval of scans and which
 // interval of rows.
-#[derive(Clone, Copy)]
+#[derive(Clone, Copy, Default)]
 pub struct Bucket {
     pub group: Option<u32>,
     pub scans: u32,
@@ -19,13 +19,14 @@ pub struct Bucket {
 }
 
 // The window group, taken for missing where crossing is allowed.
+#[tactic(auto, unfolding(matching::specs::Matching::group_of))]
 fn group_in(p: ImPeak1D, params: StitchParams) -> Option<u32>
     ensures { result ≡ group_in params p }
 {
     if params.allow_cross_groups {
         None
     } else {
-        matching::inner::group_of(p)
+        p.group()
     }
 }
 
@@ -34,10 +35,7 @@ fn group_in(p: ImPeak1D, params: StitchParams) -> Option<u32>
 fn group_words(group: Option<u32>) -> [u32; 2]
     ensures { result ≡ group_there group ∷ group_number group ∷ [] }
 {
-    match group {
-        Some(number) => [1, number],
-        None => [0, 0],
-    }
+    [u32::from(group.is_some()), group.unwrap_or(0)]
 }
 
 // Which interval a row falls into, where each has one row more than the delta.
@@ -101,7 +99,7 @@ fn put_second_key(out: &mut [u32], p: ImPeak1D)
     requires { 6 ≤ length out.old }
     ensures { out.new ≡ key_of Second p ++ drop 6 out.old }
 {
-    let [there, number] = group_words(matching::inner::group_of(p));
+    let [there, number] = group_words(p.group());
     let key = [there, number, p.tof_row, p.scan, p.rt_lo, p.id];
     out[..6].copy_from_slice(&key);
 }

@@ -109,16 +109,13 @@ fn bad_field(text: &[u8], at: usize, field: usize, limit: u32) -> Fault
     Fault::TooHigh { field, limit }
 }
 
-// Whether a field is a number to its limit.
-fn check_field(text: &[u8], at: usize, kind: Kind, field: usize) -> Result<(), Fault>
+// The number of a field, to its limit.
+fn check_field(text: &[u8], at: usize, kind: Kind, field: usize) -> Result<u32, Fault>
     requires { at + length text.now < 0x1_0000_0000_0000_0000 }
     ensures { is_ok result ≡ is_number (limit_of kind field) text.now }
 {
     let limit = limit_of(kind, field);
-    match table::number(text, limit) {
-        Some(_) => Ok(()),
-        None => Err(bad_field(text, at, field, limit)),
-    }
+    table::number(text, limit).ok_or_else(|| bad_field(text, at, field, limit))
 }
 
 // How many fields a line has, or what is wrong with the first bad one.
@@ -126,6 +123,7 @@ fn count_fields(line: &[u8], kind: Kind) -> Result<usize, Fault>
     ensures good { is_ok result ≡ all_within kind 1 (fields line.now) }
     ensures count { IfOk result (λ n. n ≡ length (fields line.now)) }
 {
+    // The count is the answer: as a `try_fold` the place and the count would be a pair that each turn makes anew.
     let mut at = 0usize;
     let mut count = 0usize;
     for text in line.split(|b| *b == b',') {

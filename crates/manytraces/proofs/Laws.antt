@@ -1,14 +1,14 @@
 -- Laws of windows as words, and of traces that are written frame after frame.
 use mathlib.Core.Path.{◌≡◌, refl, sym, ap, ◌∙◌}
 use mathlib.Core.Bool.{Bool, true, false}
-use mathlib.Core.List.{List, ◌++◌}
+use mathlib.Core.List.{List, [], ◌∷◌, ◌++◌}
 use Prim.Native.Nat.{ℕ, zero, suc, ◌≤◌, ◌<◌, ◌+◌, ◌-◌, ◌*◌}
 use native.Mathlib.Nat.{suc-mul}
 use native.Mathlib.Omega.{arith}
 use borrow.Author.Tests.{eqb-true, eqb-false, ltb-true, ltb-false}
 use lib.Dec.{eqb, ltb}
-use lib.ListN.{length, get_or, take, drop, set, length-set, length-drop, take-append-drop}
-use lib.Seq.{get_or-set_same, get_or-set_other, get_or-drop, drop-set-lt, drop-drop, take-add}
+use lib.ListN.{length, get_or, take, drop, set, length-set, length-drop, length-append, take-append-drop}
+use lib.Seq.{get_or-set_same, get_or-set_other, get_or-drop, get_or-take, drop-set-lt, drop-drop, take-add, take_at, drop_at, length-take-le}
 use lib.Ieee.{Float, nan}
 use Rattle.numeric.specs.Arith.{𝟎, at}
 use Rattle.digits.proofs.UpTo.{row_fits, front-map}
@@ -24,36 +24,24 @@ use Rattle.manytraces.specs.Steps.{window_at, Kept, Noted, Column, Columns}
 
 -- ---- windows as words
 
-pub kept : (k : ℕ) (w : Window) (d : List ℕ) → 4 * k + 4 ≤ length d
-    → Kept k w d (set (set (set (set d (4 * k) w.bin_lo) (4 * k + 1) w.bin_hi) (4 * k + 2) w.scan_lo) (4 * k + 3) w.scan_hi)
-kept k w d h =
+pub kept : (k : ℕ) (w : Window) (d new : List ℕ) → 4 * k + 4 ≤ length d
+    → new ≡ take (4 * k) d ++ ((w.bin_lo ∷ w.bin_hi ∷ w.scan_lo ∷ w.scan_hi ∷ []) ++ drop (4 * k + 4) d) → Kept k w d new
+kept k w d new h e =
     let a = 4 * k in
-    let d1 = set d a w.bin_lo in
-    let d2 = set d1 (a + 1) w.bin_hi in
-    let d3 = set d2 (a + 2) w.scan_lo in
-    let d4 = set d3 (a + 3) w.scan_hi in
-    let l1 : length d1 ≡ length d = length-set d a w.bin_lo in
-    let l2 : length d2 ≡ length d1 = length-set d1 (a + 1) w.bin_hi in
-    let l3 : length d3 ≡ length d2 = length-set d2 (a + 2) w.scan_lo in
-    let l4 : length d4 ≡ length d3 = length-set d3 (a + 3) w.scan_hi in
-    let b : get_or d4 a 0 ≡ w.bin_lo =
-    get_or-set_other d3 (a + 3) a w.scan_hi 0 (λ e. absurd (omega arith)) ∙ get_or-set_other d2 (a + 2) a w.scan_lo 0 (λ e. absurd (omega arith))
-    ∙ get_or-set_other d1 (a + 1) a w.bin_hi 0 (λ e. absurd (omega arith)) ∙ get_or-set_same d a w.bin_lo 0 (omega arith) in
-    let c : get_or d4 (a + 1) 0 ≡ w.bin_hi =
-    get_or-set_other d3 (a + 3) (a + 1) w.scan_hi 0 (λ e. absurd (omega arith)) ∙ get_or-set_other d2 (a + 2) (a + 1) w.scan_lo 0 (λ e. absurd (omega arith))
-    ∙ get_or-set_same d1 (a + 1) w.bin_hi 0 (omega arith) in
-    let s : get_or d4 (a + 2) 0 ≡ w.scan_lo =
-    get_or-set_other d3 (a + 3) (a + 2) w.scan_hi 0 (λ e. absurd (omega arith)) ∙ get_or-set_same d2 (a + 2) w.scan_lo 0 (omega arith) in
-    let t : get_or d4 (a + 3) 0 ≡ w.scan_hi = get_or-set_same d3 (a + 3) w.scan_hi 0 (omega arith) in
+    let ws : List ℕ = w.bin_lo ∷ w.bin_hi ∷ w.scan_lo ∷ w.scan_hi ∷ [] in
+    let r = drop (a + 4) d in
+    let la : length (take a d) ≡ a = length-take-le a d (omega arith) in
+    let front : take a new ≡ take a d = ap (take a) e ∙ take_at (take a d) (ws ++ r) a la in
+    let back : drop a new ≡ ws ++ r = ap (drop a) e ∙ drop_at (take a d) (ws ++ r) a la in
+    let at : (i : ℕ) → get_or new (a + i) 0 ≡ get_or (ws ++ r) i 0 = λ i. sym (get_or-drop a new i 0) ∙ ap (λ (l : List ℕ). get_or l i 0) back in
+    let z : a + 0 ≡ a = omega arith in
+    let first : get_or new a 0 ≡ w.bin_lo = rw z at (at 0) in
+    let size : length new ≡ length (take a d) + suc (suc (suc (suc (length r)))) = ap length e ∙ length-append (take a d) (ws ++ r) in
     record {
-      size = l4 ∙ l3 ∙ l2 ∙ l1;
-      here = rw (b, c, s, t);
-      front = λ i l.
-          get_or-set_other d3 (a + 3) i w.scan_hi 0 (λ e. absurd (omega arith)) ∙ get_or-set_other d2 (a + 2) i w.scan_lo 0 (λ e. absurd (omega arith))
-          ∙ get_or-set_other d1 (a + 1) i w.bin_hi 0 (λ e. absurd (omega arith)) ∙ get_or-set_other d a i w.bin_lo 0 (λ e. absurd (omega arith));
-      rest =
-          drop-set-lt (a + 4) d3 (a + 3) w.scan_hi (omega arith) ∙ drop-set-lt (a + 4) d2 (a + 2) w.scan_lo (omega arith)
-          ∙ drop-set-lt (a + 4) d1 (a + 1) w.bin_hi (omega arith) ∙ drop-set-lt (a + 4) d a w.bin_lo (omega arith);
+      size = omega (arith, size, la, length-drop (a + 4) d);
+      here = rw (first, at 1, at 2, at 3) refl;
+      front = λ i l. sym (get_or-take a new i 0 l) ∙ ap (λ (x : List ℕ). get_or x i 0) front ∙ get_or-take a d i 0 l;
+      rest = sym (drop-drop 4 a new) ∙ ap (drop 4) back;
     }
 
 module _ (w : ℕ → Window) (old : List ℕ) where

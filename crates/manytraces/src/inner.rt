@@ -24,10 +24,7 @@ fn put_window(windows: &mut [u32], k: usize, w: Window)
     ensures { Kept k w windows.old windows.new }
 {
     let at = 4 * k;
-    windows[at] = w.bin_lo;
-    windows[at + 1] = w.bin_hi;
-    windows[at + 2] = w.scan_lo;
-    windows[at + 3] = w.scan_hi;
+    windows[at..at + 4].copy_from_slice(&[w.bin_lo, w.bin_hi, w.scan_lo, w.scan_hi]);
 }
 
 // Reads the one at place k.
@@ -60,7 +57,8 @@ fn put_windows(peaks: PaddedPeaks, windows: &mut [u32])
 // ---- sums
 
 // Puts the sums of frame f, of m frames: one for each of n windows, at the f-th place of its trace. By place: a sum goes m
-// places behind the one before it, and through `chunks_exact_mut(m)` the proof would know the length of `out` alone.
+// places behind the one before it, and through `chunks_exact_mut(m)` the proof would know the length of `out` alone. The windows are read
+// by the same place, and n stands beside them: as many as there are peaks are looked at, of scratch that may be longer.
 fn put_column(ix: &CheckedIndex, f: usize, m: usize, n: usize, windows: &[u32], out: &mut [f32])
     requires { (f + 1 < length ix.now.starts) × (f < m) × (n * m ≤ length out.old) × (4 * n ≤ length windows.now) }
     ensures { Column (λ k. add_frame ix.now (window_at windows.now k) f 𝟎) n m f out.old out.new }

@@ -1,5 +1,5 @@
 // The check of a call for many traces, whose reading limit a caller gives.
-ghost use Rattle.std.specs.Prelude.{◌≡◌, ◌*◌, leb, IfOk, OnOk};
+ghost use Rattle.std.specs.Prelude.{◌≡◌, IfOk, OnOk};
 ghost use Rattle.refusal.specs.Numbered.{number_in};
 ghost use Rattle.manytraces.specs.ManyTraces.{call_of, many_number};
 ghost use Rattle.manytraces.specs.Ready.{Ready};
@@ -15,13 +15,6 @@ use refusal::Refusal;
 pub struct Rooms {
     pub out: usize,
     pub windows: usize,
-}
-
-// Whether n times m places are there.
-fn has_room(n: usize, m: usize, room: usize) -> bool
-    ensures { result ≡ leb (n * m) room }
-{
-    n.checked_mul(m).is_some_and(|all| all <= room)
 }
 
 // The index as a checked one, or the lowest number that applies: for readings with patterns to `limit`.
@@ -46,7 +39,7 @@ pub fn check<'a>(
             values: tof::inner::sound_step(scale.tof_step) & (peaks.pad <= limits::MAX_COUNT),
             axes: tof::inner::sound_ends(scale),
             records: record::inner::all_sound(list),
-            room: has_room(n, ix.frames(), room.out),
+            room: frameindex::numbers::fits_times(n, ix.frames(), room.out),
             scratch: 4 * n <= room.windows,
             scale: tof::inner::agrees(scale),
             ..Further::MET

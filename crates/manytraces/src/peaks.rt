@@ -5,7 +5,8 @@ ghost use Rattle.record.specs.Record.{size};
 use record::ImPeak1D;
 use tof::TofScale;
 
-// The words of the records, the scale of their TOF bounds, and how many bins more are taken on either side.
+// The words of the records, the scale of their TOF bounds, and how many bins more are taken on either side. The scale is no `CheckedScale`:
+// an entry fills the struct before it is checked, and then two functions ask that it is sound, `put_traces` and `put_windows`.
 #[derive(Clone, Copy)]
 pub struct PaddedPeaks<'a> {
     pub list: &'a [u32],

@@ -6,7 +6,7 @@ ghost use Rattle.marginals.specs.Steps.{Within};
 
 use frameindex::numbers::Further;
 use frameindex::{CheckedIndex, FrameIndex};
-use framesums::inner::Window;
+use framesums::inner::{FrameRange, Window};
 use refusal::Refusal;
 
 // Frames, bins and scans, ends included.
@@ -26,6 +26,17 @@ impl Block {
         ensures { result ≡ frames_in self }
     {
         count(self.rt_lo, self.rt_hi)
+    }
+
+    // Those frames, by their places in the run.
+    pub fn frame_range(self) -> FrameRange
+        ensures from { result.from ≡ self.rt_lo }
+        ensures count { result.count ≡ frames_in self }
+    {
+        FrameRange {
+            from: self.rt_lo as usize,
+            count: self.frames(),
+        }
     }
 
     // How many scans.

@@ -19,7 +19,7 @@ pub fn build_rt_marginal(ix: &FrameIndex, b: Block, out: &mut [f32]) -> Result<u
 {
     let n = b.frames();
     let ix = inner::check(limits::MAX_READING, ix, b, n, out.len())?;
-    framesums::inner::put_frame_sums(&ix, b.rt_lo as usize, n, b.window(), out);
+    framesums::inner::put_frame_sums(&ix, b.frame_range(), b.window(), out);
     Ok(n)
 }
 
@@ -30,6 +30,6 @@ pub fn build_im_marginal(ix: &FrameIndex, b: Block, out: &mut [f32]) -> Result<u
 {
     let n = b.scans();
     let ix = inner::check(limits::MAX_READING, ix, b, n, out.len())?;
-    scansums::inner::put_scan_sums(&ix, b.rt_lo as usize, b.frames(), b.window(), out);
+    scansums::inner::put_scan_sums(&ix, b.frame_range(), b.window(), out);
     Ok(n)
 }

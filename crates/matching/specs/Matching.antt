@@ -1,5 +1,6 @@
 -- When two peaks may be joined.
-use Rattle.std.specs.Prelude.{Bool, not, cond, ◌&&◌, ◌||◌, ℕ, ◌+◌, ◌-◌, ◌^◌, min, max, leb, eqb, nat_eq, if◌then◌else◌, Option, Some, None, Float}
+use Rattle.std.specs.Prelude.{Bool, not, cond, ◌&&◌, ◌||◌, ℕ, ◌+◌, ◌-◌, ◌^◌, min, max, leb, eqb, nat_eq, Option, Float}
+use Rattle.std.specs.Bool.{then_some}
 use Rattle.std.specs.Option.{option_eq}
 use Rattle.std.specs.Float.Ieee.{lt, le}
 use Rattle.limits.specs.Limits.{max_count}
@@ -56,7 +57,7 @@ at_most limit n = eqb limit 0 || leb n limit
 
 -- the window group, where there is one
 unfoldable pub group_of : ImPeak1D → Option ℕ
-group_of p = if has_group p then Some p.window_group else None
+group_of p = then_some (has_group p) p.window_group
 
 -- one window group, unless crossing is allowed
 unfoldable pub same_group : StitchParams → ImPeak1D → ImPeak1D → Bool

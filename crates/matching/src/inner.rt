@@ -2,7 +2,7 @@
 ghost use Rattle.std.specs.Prelude.{◌≡◌, min, max, List, [], ◌∷◌, ◌<◌, ◌-◌};
 ghost use Rattle.record.specs.Record.{peak_at};
 ghost use Rattle.record.specs.declared.ImPeak1D.{ImPeak1D as PeakT};
-ghost use Rattle.matching.specs.Matching.{samples, overlap, jaccard_f, enough_common, at_most, group_of};
+ghost use Rattle.matching.specs.Matching.{samples, overlap, jaccard_f, enough_common, at_most};
 ghost use Rattle.matching.specs.Matching.{same_group, rows_near, frames_overlap, scans_overlap, inside, apexes_inside, compatible};
 ghost use Rattle.matching.specs.Group.{Covers, within_limits, may_join};
 
@@ -21,7 +21,7 @@ fn at_most(limit: u32, n: u32) -> bool
 
 // From one sample to another, ends included; none if the ends are reversed. tof's `Span` has the same fields for two bins or two TOF
 // values; no crate below both is about either.
-#[derive(Clone, Copy)]
+#[derive(Clone, Copy, PartialEq, Eq)]
 pub struct Interval {
     pub lo: u32,
     pub hi: u32,
@@ -83,10 +83,7 @@ impl Interval {
     fn has_enough(self, other: Interval, least: u32, share: f32) -> bool
         ensures { result ≡ enough_common least share self.lo self.hi other.lo other.hi }
     {
-        let same = (self.lo == other.lo)
-            & (self.hi == other.hi)
-            & (self.lo <= self.hi)
-            & (share <= 1.0);
+        let same = (self == other) & (self.lo <= self.hi) & (share <= 1.0);
         if same {
             return least.saturating_sub(1) <= self.hi - self.lo;
         }
@@ -103,14 +100,6 @@ impl Interval {
     }
 }
 
-// The window group of a peak, where there is one.
-#[tactic(auto, unfolding(crate::specs::Matching::group_of))]
-pub fn group_of(p: ImPeak1D) -> Option<u32>
-    ensures { result ≡ group_of p }
-{
-    (p.flags % 2 == ImPeak1D::HAS_GROUP).then_some(p.window_group)
-}
-
 fn same_group(p: StitchParams, a: ImPeak1D, b: ImPeak1D) -> bool
     ensures { result ≡ same_group p a b }
 {
@@ -118,7 +107,7 @@ fn same_group(p: StitchParams, a: ImPeak1D, b: ImPeak1D) -> bool
     if (a.flags == b.flags) & (a.window_group == b.window_group) {
         return true;
     }
-    p.allow_cross_groups | (group_of(a) == group_of(b))
+    p.allow_cross_groups | (a.group() == b.group())
 }
 
 #[tactic(auto, unfolding(crate::specs::Matching::rows_near))]

@@ -3,14 +3,18 @@ use mathlib.Core.Path.{◌≡◌, refl, ap, sym}
 use mathlib.Core.Bool.{Bool, true, false, cond, ◌&&◌, ◌||◌}
 use mathlib.Core.List.{List, [], ◌∷◌, ◌++◌, append-nil, foldl-append}
 use lib.Ieee.{Float}
-use Rattle.std.specs.Prelude.{is_some, unwrap_or}
 use Rattle.std.specs.Bool.{then_some}
 use Rattle.std.specs.Option.{option_or}
-use Rattle.numeric.specs.Arith.{◌⊕◌, ◌⊘◌, 𝟎, 𝟏}
+use Rattle.std.specs.Prelude.{Some, None}
+use Rattle.std.proofs.lemmas.Option.{none-some, same_Some}
+use Rattle.numeric.specs.Arith.{◌⊕◌, ◌⊗◌, ◌⊘◌, 𝟎, 𝟏}
 use Rattle.numeric.specs.Numeric.{max_f}
+use Rattle.record.specs.Record.{has_sigma}
 use Rattle.record.specs.declared.ImPeak1D.{ImPeak1D}
 use Rattle.peaklist.specs.Extremes.{is_any}
-use Rattle.merging.specs.Merging.{highest_f, summed, having, have_all, first_of}
+use Rattle.merging.specs.declared.inner.SigmaSums.{SigmaSums}
+use Rattle.merging.specs.Merging.{highest_f, summed, weight, having, have_all, first_of}
+use Rattle.merging.specs.Walk.{sigma_of}
 use Rattle.std.proofs.Math.Bool.{and_assoc, and-true}
 
 -- ---- heights and sums
@@ -48,14 +52,6 @@ first-join none f [] qs = refl
 first-join none f (p ∷ ps) qs = refl
 
 -- ---- the fields that may be missing, as the code has them
-pub sum-having : (f : ImPeak1D → Float) (has : ImPeak1D → Bool) (ps : List ImPeak1D) (p : ImPeak1D)
-    → summed f (having has (ps ++ (p ∷ []))) ≡ cond (has p) (summed f (having has ps) ⊕ f p) (summed f (having has ps))
-sum-having f has ps p = rw (having-join has ps p) (go (has p))
-  where
-    go : (b : Bool) → summed f (having has ps ++ cond b (p ∷ []) []) ≡ cond b (summed f (having has ps) ⊕ f p) (summed f (having has ps))
-    go true = sum-join f (having has ps) p
-    go false = rw append-nil
-
 pub any-having : (has : ImPeak1D → Bool) (ps : List ImPeak1D) (p : ImPeak1D)
     → is_any (having has (ps ++ (p ∷ []))) ≡ (is_any (having has ps) || has p)
 unfolding is_any
@@ -78,10 +74,6 @@ first-having none f has ps p = rw (having-join has ps p, first-join none f (havi
 
 -- the same for a lone peak
 module _ (has : ImPeak1D → Bool) (p : ImPeak1D) where
-  pub sum-having-one : (f : ImPeak1D → Float) → summed f (having has (p ∷ [])) ≡ cond (has p) (𝟎 ⊕ f p) 𝟎
-  unfolding having summed
-  sum-having-one f = sum-having f has [] p
-
   pub any-having-one : is_any (having has (p ∷ [])) ≡ has p
   unfolding having is_any
   any-having-one = any-having has [] p
@@ -90,20 +82,37 @@ module _ (has : ImPeak1D → Bool) (p : ImPeak1D) where
   unfolding having is_any
   first-having-one none f = first-having none f has [] p
 
+-- ---- the sums for the scan sigma
+
+-- one more peak that has a scan sigma
+pub sigma-more : (ps : List ImPeak1D) (p : ImPeak1D) (x : Float) → then_some (has_sigma p) p.scan_sigma ≡ Some x
+    → record { weight = (sigma_of ps).weight ⊕ weight p; sigma = (sigma_of ps).sigma ⊕ x ⊗ weight p } ≡ sigma_of (ps ++ (p ∷ []))
+unfolding sigma_of
+sigma-more ps p x e = rw (having-join has_sigma ps p) (go (has_sigma p) (having has_sigma ps) e)
+  where
+    go : (b : Bool) (l : List ImPeak1D) → then_some b p.scan_sigma ≡ Some x
+        → ◌≡◌ {A = SigmaSums} (record { weight = summed weight l ⊕ weight p; sigma = summed (λ q. q.scan_sigma ⊗ weight q) l ⊕ x ⊗ weight p })
+        (record { weight = summed weight (l ++ cond b (p ∷ []) []); sigma = summed (λ q. q.scan_sigma ⊗ weight q) (l ++ cond b (p ∷ []) []) })
+    go true l k = rw (← same_Some _ _ k, sum-join weight l p, sum-join (λ q. q.scan_sigma ⊗ weight q) l p) refl
+    go false l k = absurd (none-some _ k)
+
+-- one more that has none
+pub sigma-same : (ps : List ImPeak1D) (p : ImPeak1D) → then_some (has_sigma p) p.scan_sigma ≡ None → sigma_of ps ≡ sigma_of (ps ++ (p ∷ []))
+unfolding sigma_of
+sigma-same ps p e = rw (having-join has_sigma ps p) (go (has_sigma p) (having has_sigma ps) e)
+  where
+    go : (b : Bool) (l : List ImPeak1D) → then_some b p.scan_sigma ≡ None
+        → ◌≡◌ {A = SigmaSums} (record { weight = summed weight l; sigma = summed (λ q. q.scan_sigma ⊗ weight q) l })
+        (record { weight = summed weight (l ++ cond b (p ∷ []) []); sigma = summed (λ q. q.scan_sigma ⊗ weight q) (l ++ cond b (p ∷ []) []) })
+    go true l k = absurd (none-some _ (sym k))
+    go false l k = rw append-nil refl
+
 -- the mean's divisor where its sum of weights is above 0
 pub divided : (b : Bool) (x w : Float) → cond b (x ⊘ cond b w 𝟏) 𝟎 ≡ cond b (x ⊘ w) 𝟎
 divided true x w = refl
 divided false x w = refl
 
 -- ---- the mobility and the group, as values that may be missing
-pub some_then : {A : Type 0} (b : Bool) (x : A) → is_some (then_some b x) ≡ b
-some_then true x = refl
-some_then false x = refl
-
-pub unwrap_then : {A : Type 0} (b : Bool) (x none : A) → unwrap_or (then_some b x) none ≡ cond b x none
-unwrap_then true x none = refl
-unwrap_then false x none = refl
-
 pub then-chosen : {A : Type 0} (b : Bool) (x none : A) → then_some b (cond b x none) ≡ then_some b x
 then-chosen true x none = refl
 then-chosen false x none = refl

@@ -7,6 +7,7 @@ use Rattle.record.specs.declared.ImPeak1D.{ImPeak1D}
 use Rattle.merging.specs.declared.inner.Sums.{Sums}
 use Rattle.merging.specs.declared.inner.Bounds.{Bounds}
 use Rattle.merging.specs.declared.inner.Heights.{Heights}
+use Rattle.merging.specs.declared.inner.SigmaSums.{SigmaSums}
 use Rattle.merging.specs.declared.inner.Merging.{Merging}
 use Rattle.peaklist.specs.Extremes.{lowest_of, highest_of, is_any}
 use Rattle.merging.specs.Merging.{highest_f, summed, total_weight, weighted_sum, having, group_word, one_group, any_mobility, first_mobility}
@@ -43,13 +44,18 @@ heights_of ps = record {
   prominence = highest_f (λ p. p.prominence) ps;
 }
 
+unfoldable pub sigma_of : List ImPeak1D → SigmaSums
+sigma_of ps = record {
+  weight = total_weight (having has_sigma ps);
+  sigma = weighted_sum (λ p. p.scan_sigma) (having has_sigma ps);
+}
+
 unfoldable pub state_of : List ImPeak1D → Merging
 state_of ps = record {
   sums = sums_of ps;
   bounds = bounds_of ps;
   heights = heights_of ps;
-  sigma_weight = total_weight (having has_sigma ps);
-  sigma = weighted_sum (λ p. p.scan_sigma) (having has_sigma ps);
+  sigma = sigma_of ps;
   mobility = then_some (any_mobility ps) (first_mobility ps);
   group = then_some (one_group ps) (group_word ps);
   id = lowest_of (λ p. p.id) ps;

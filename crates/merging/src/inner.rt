@@ -1,17 +1,17 @@
 // A group is walked once, in its order: `start` with its first peak, `join` with each further one, and `finish`.
-ghost use Rattle.std.specs.Prelude.{◌≡◌, Bool, true, cond, ◌&&◌, ℕ, List, [], ◌∷◌, ◌++◌, ◌≤◌, min, max};
+ghost use Rattle.std.specs.Prelude.{◌≡◌, Bool, true, cond, ◌&&◌, ℕ, List, [], ◌∷◌, ◌++◌, is_some};
 ghost use Rattle.std.specs.Bool.{then_some};
-ghost use Rattle.numeric.specs.Arith.{◌⊘◌};
-ghost use Rattle.record.specs.Record.{has_mobility};
+ghost use Rattle.std.specs.Float.Ieee.{lt};
+ghost use Rattle.numeric.specs.Arith.{◌⊘◌, 𝟎, 𝟏};
 ghost use Rattle.record.specs.declared.ImPeak1D.{ImPeak1D};
 ghost use Rattle.peaklist.specs.Extremes.{is_any};
 ghost use Rattle.merging.specs.Merging.{weight, whole, width_of, flags_of, of_group, merged};
-ghost use Rattle.merging.specs.Walk.{sums_of, bounds_of, heights_of, Holds};
+ghost use Rattle.merging.specs.Walk.{sums_of, bounds_of, heights_of, sigma_of, Holds};
 
 use record::{ImPeak1D, PeakId};
 
 // Sums over the peaks so far: of their weights, of their areas, and of five further fields, each value times the peak's weight.
-#[derive(Clone, Copy)]
+#[derive(Clone, Copy, Default)]
 pub struct Sums {
     pub weight: f32,
     pub area: f32,
@@ -45,33 +45,28 @@ pub struct Heights {
     pub prominence: f32,
 }
 
-// What is kept of the peaks of a group so far. The two sums for the scan sigma, of weights and of values times weights, are over
-// the peaks that have one. The mobility is that of the first peak that has one, the group that of all the peaks, where they are of one.
+// Sums over the peaks so far that have a scan sigma: of their weights, and of their values times their weights. No peak yet is 0 and 0:
+// an Option of both sums makes a merge of peaks that are alike 1.3 times as long (both forms in Rust).
+#[derive(Clone, Copy, Default)]
+pub struct SigmaSums {
+    pub weight: f32,
+    pub sigma: f32,
+}
+
+// What is kept of the peaks of a group so far. The mobility is that of the first peak that has one, the group that of all the peaks, where
+// they are of one.
 #[derive(Clone, Copy)]
 pub struct Merging {
     pub sums: Sums,
     pub bounds: Bounds,
     pub heights: Heights,
-    pub sigma_weight: f32,
-    pub sigma: f32,
+    pub sigma: SigmaSums,
     pub mobility: Option<f32>,
     pub group: Option<u32>,
     pub id: PeakId,
 }
 
-// ---- choices
-
-fn choose(first: bool, a: f32, b: f32) -> f32
-    ensures { result ≡ cond first a b }
-{
-    if first { a } else { b }
-}
-
-fn word_if(there: bool, w: u32) -> u32
-    ensures { (result ≡ cond there w 0) × (result ≤ w) }
-{
-    if there { w } else { 0 }
-}
+// ---- of one peak
 
 #[tactic(auto, unfolding(crate::specs::Merging::weight))]
 fn weight_of(p: ImPeak1D) -> f32
@@ -83,7 +78,7 @@ fn weight_of(p: ImPeak1D) -> f32
 fn is_of_group(g: u32, p: ImPeak1D) -> bool
     ensures { result ≡ of_group g p }
 {
-    (p.flags % 2 == 1) & (p.window_group == g)
+    p.group() == Some(g)
 }
 
 // A window group, if a peak is of it.
@@ -93,12 +88,6 @@ fn of_group_too(group: Option<u32>, p: ImPeak1D) -> Option<u32>
     group.filter(|g| is_of_group(*g, p))
 }
 
-fn mobility_of(p: ImPeak1D) -> Option<f32>
-    ensures { result ≡ then_some (has_mobility p) p.mobility }
-{
-    (p.flags / ImPeak1D::HAS_MOBILITY % 2 == 1).then_some(p.mobility)
-}
-
 // ---- what is kept: of the first peak, and with one more
 
 impl Sums {
@@ -106,16 +95,7 @@ impl Sums {
     fn start(p: ImPeak1D) -> Sums
         ensures { result ≡ sums_of (p ∷ []) }
     {
-        let none = Sums {
-            weight: 0.0,
-            area: 0.0,
-            tof_row: 0.0,
-            tof_center: 0.0,
-            scan: 0.0,
-            scan_abs: 0.0,
-            subscan: 0.0,
-        };
-        none.join(p)
+        Sums::default().join(p)
     }
 
     fn join(self, p: ImPeak1D) -> Sums
@@ -131,6 +111,28 @@ impl Sums {
             scan_abs: self.scan_abs + numeric::of_u32(p.scan_abs) * weight,
             subscan: self.subscan + p.subscan * weight,
         }
+    }
+}
+
+impl SigmaSums {
+    fn join(self, p: ImPeak1D) -> SigmaSums
+        ensures { (ps : List ImPeak1D) → self ≡ sigma_of ps → result ≡ sigma_of (ps ++ (p ∷ [])) }
+    {
+        let weight = weight_of(p);
+        p.sigma().map_or(
+            self,
+            |sigma| SigmaSums {
+                weight: self.weight + weight,
+                sigma: self.sigma + sigma * weight,
+            },
+        )
+    }
+
+    // The mean, where the weights come to more than 0: where a peak has a scan sigma.
+    fn mean(self) -> Option<f32>
+        ensures { result ≡ then_some (lt 𝟎 self.weight) (self.sigma ⊘ self.weight) }
+    {
+        (self.weight > 0.0).then_some(self.sigma / self.weight)
     }
 }
 
@@ -200,15 +202,12 @@ impl Merging {
     pub fn start(p: ImPeak1D) -> Merging
         ensures { Holds result (p ∷ []) }
     {
-        let sigma = p.flags / ImPeak1D::HAS_SIGMA % 2 == 1;
-        let weight = weight_of(p);
         Merging {
             sums: Sums::start(p),
             bounds: Bounds::start(p),
             heights: Heights::start(p),
-            sigma_weight: choose(sigma, 0.0 + weight, 0.0),
-            sigma: choose(sigma, 0.0 + p.scan_sigma * weight, 0.0),
-            mobility: mobility_of(p),
+            sigma: SigmaSums::default().join(p),
+            mobility: p.mobility(),
             group: of_group_too(Some(p.window_group), p),
             id: p.id,
         }
@@ -218,18 +217,25 @@ impl Merging {
     pub fn join(self, p: ImPeak1D) -> Merging
         ensures { (ps : List ImPeak1D) → Holds self ps → Holds result (ps ++ (p ∷ [])) }
     {
-        let sigma = p.flags / ImPeak1D::HAS_SIGMA % 2 == 1;
-        let weight = weight_of(p);
         Merging {
             sums: self.sums.join(p),
             bounds: self.bounds.join(p),
             heights: self.heights.join(p),
-            sigma_weight: choose(sigma, self.sigma_weight + weight, self.sigma_weight),
-            sigma: choose(sigma, self.sigma + p.scan_sigma * weight, self.sigma),
-            mobility: self.mobility.or(mobility_of(p)),
+            sigma: self.sigma.join(p),
+            mobility: self.mobility.or(p.mobility()),
             group: of_group_too(self.group, p),
             id: self.id.min(p.id),
         }
+    }
+
+    // Which of the three fields that may be missing are there, in the bits of a record's flags.
+    #[tactic(auto, using(record::proofs::Missing::some_then))]
+    fn flags(self) -> u32
+        ensures { result ≡ flags_of (is_some self.group) (is_some self.mobility) (lt 𝟎 self.sigma.weight) }
+    {
+        u32::from(self.group.is_some()) * ImPeak1D::HAS_GROUP
+            + u32::from(self.mobility.is_some()) * ImPeak1D::HAS_MOBILITY
+            + u32::from(self.sigma.mean().is_some()) * ImPeak1D::HAS_SIGMA
     }
 
     // The peak into which they are merged.
@@ -239,8 +245,7 @@ impl Merging {
         let s = self.sums;
         let b = self.bounds;
         let h = self.heights;
-        let divisor = choose(s.weight > 0.0, s.weight, 1.0);
-        let any_sigma = self.sigma_weight > 0.0;
+        let divisor = divisor_of(s.weight);
         ImPeak1D {
             tof_row: whole_mean(s.tof_row, divisor),
             tof_center: whole_mean(s.tof_center, divisor),
@@ -250,7 +255,7 @@ impl Merging {
             rt_hi: b.rt_hi,
             frame_id_lo: b.frame_id_lo,
             frame_id_hi: b.frame_id_hi,
-            flags: flags_of(self.group.is_some(), self.mobility.is_some(), any_sigma),
+            flags: self.flags(),
             window_group: self.group.unwrap_or(0),
             scan: whole_mean(s.scan, divisor),
             left: b.left,
@@ -258,7 +263,7 @@ impl Merging {
             scan_abs: whole_mean(s.scan_abs, divisor),
             left_abs: b.left_abs,
             right_abs: b.right_abs,
-            scan_sigma: choose(any_sigma, self.sigma / self.sigma_weight, 0.0),
+            scan_sigma: self.sigma.mean().unwrap_or(0.0),
             mobility: self.mobility.unwrap_or(0.0),
             apex_smoothed: h.smoothed,
             apex_raw: h.raw,
@@ -274,6 +279,13 @@ impl Merging {
 }
 
 // ---- the merged peak
+
+// What the sums are divided by: the weights, or 1 where these do not come to more than 0.
+fn divisor_of(weight: f32) -> f32
+    ensures { result ≡ cond (lt 𝟎 weight) weight 𝟏 }
+{
+    if weight > 0.0 { weight } else { 1.0 }
+}
 
 // The whole number nearest to a mean. Below 2 ^ 23 it is half of one more than the whole halves, and no test has to tell on which side of
 // a whole number the mean lies, which nobody can foresee. The Rust casts that of the TOF centres to i32 and does not raise it to 0: the
@@ -299,12 +311,4 @@ fn width_of(from: u32, to: u32) -> u32
     ensures { result ≡ width_of from to }
 {
     to.saturating_sub(from).saturating_add(1)
-}
-
-fn flags_of(group: bool, mobility: bool, sigma: bool) -> u32
-    ensures { result ≡ flags_of group mobility sigma }
-{
-    word_if(group, ImPeak1D::HAS_GROUP)
-        + word_if(mobility, ImPeak1D::HAS_MOBILITY)
-        + word_if(sigma, ImPeak1D::HAS_SIGMA)
 }

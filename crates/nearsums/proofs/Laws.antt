@@ -1,18 +1,24 @@
 -- Searches near a place.
-use mathlib.Core.Path.{◌≡◌, refl, sym, ◌∙◌, subst}
+use mathlib.Core.Path.{◌≡◌, refl, sym, ap, ◌∙◌, subst}
 use mathlib.Core.Bool.{Bool, true, false, cond}
 use mathlib.Core.List.{List}
-use Prim.Native.Nat.{ℕ, ◌≤◌, ◌<◌, ◌+◌}
+use Prim.Native.Nat.{ℕ, zero, suc, ◌≤◌, ◌<◌, ◌+◌, ◌-◌}
 use native.Mathlib.Omega.{arith}
 use borrow.Author.Tests.{ltb-true, ltb-false, eqb-true, eqb-false}
 use lib.Dec.{ltb, eqb}
-use lib.ListN.{length, get_or, set}
-use lib.Seq.{get_or-set_same, get_or-set_other}
+use lib.ListN.{length, get_or, take, drop, set, length-drop}
+use lib.Seq.{get_or-set_same, get_or-set_other, get_or-drop, take-suc}
+use Rattle.std.specs.List.{sum_by}
+use Rattle.std.proofs.lemmas.List.Sums.{sum_by_push}
 use Rattle.frameindex.specs.FrameIndex.{Index}
 use Rattle.framesums.specs.declared.inner.Window.{Window}
 use Rattle.framesums.specs.Steps.{Rising, FirstAt, with_scans, PointsOf}
-use Rattle.framesums.proofs.Laws.{rise-le, points_none}
+use Rattle.framesums.proofs.Laws.{rise-le, first-none, points_none}
 use Rattle.nearsums.specs.Steps.{FirstIn, Placed}
+
+-- 1 where a bin is below x
+abbrev pub one_below : ℕ → ℕ → ℕ
+one_below x bin = cond (ltb bin x) 1 0
 
 module _ (bins : List ℕ) (from to x : ℕ) (rise : Rising bins from to) where
   -- a part of the places
@@ -85,6 +91,21 @@ module _ (bins : List ℕ) (from to x : ℕ) (rise : Rising bins from to) where
       go : (t : Bool) → ltb v x ≡ t → FirstAt bins from (i + 1) x (r + cond t 1 0)
       go true t = first_counted i r h a (rw (sym e) (ltb-true v x t)) g
       go false t = let z : r + 0 ≡ r = omega arith in rw z (first-passed i r h a (rw (sym e) (ltb-false v x t)) g)
+
+  -- those of n places that are below x are counted
+  counted : (n : ℕ) → from + n ≤ to → to ≤ length bins → FirstAt bins from (from + n) x (from + sum_by (one_below x) (take n (drop from bins)))
+  counted zero h m = let z : from + 0 ≡ from = omega arith in rw z (first-none bins from from x (λ j k a b d. absurd (omega arith)) refl)
+  counted (suc n) h m =
+      let l = drop from bins in
+      let k : n < length l = rw (length-drop from bins) (omega arith) in
+      let v = get_or l n 0 in
+      let part : sum_by (one_below x) (take (suc n) l) ≡ sum_by (one_below x) (take n l) + one_below x v = ap (sum_by (one_below x)) (take-suc l n 0 k) ∙ sum_by_push (one_below x) (take n l) v in
+      let sum : from + (sum_by (one_below x) (take n l) + one_below x v) ≡ from + sum_by (one_below x) (take n l) + one_below x v = omega arith in
+      let e : from + suc n ≡ from + n + 1 = omega arith in
+      rw (e, part, sum) (first-next (from + n) (from + sum_by (one_below x) (take n l)) v (one_below x v) (omega arith) (omega arith) (get_or-drop from bins n 0) refl (counted n (omega arith) m))
+
+  pub all_counted : from ≤ to → to ≤ length bins → FirstAt bins from to x (from + sum_by (one_below x) (take (to - from) (drop from bins)))
+  all_counted h m = let e : from + (to - from) ≡ to = omega arith in rw e at (counted (to - from) (omega arith) m)
 
   pub first-whole : (i r : ℕ) → i ≡ to → FirstAt bins from i x r → FirstAt bins from to x r
   first-whole i r e g = subst (λ (j : ℕ). FirstAt bins from j x r) e g

@@ -6,7 +6,7 @@ ghost use Rattle.framesums.specs.Steps.{Rising, FirstAt, PointsOf};
 ghost use Rattle.nearsums.specs.Steps.{FirstIn, Placed};
 
 use frameindex::CheckedIndex;
-use framesums::inner::{Span, Window};
+use framesums::inner::{FrameRange, Span, Window};
 
 // Places are those of the whole list of bins, as in `framesums`: the search of a frame begins at one that is remembered.
 
@@ -16,11 +16,9 @@ fn count_to(bins: &[u32], from: usize, to: usize, x: u32) -> usize
     requires { (from ≤ to) × (to ≤ length bins.now) × Rising bins.now from to }
     ensures { FirstAt bins.now from to x result }
 {
-    let mut r = from;
-    for &bin in &bins[from..to] {
-        r += framesums::inner::below(bin, x);
-    }
-    r
+    bins[from..to]
+        .iter()
+        .fold(from, |r, &bin| r + framesums::inner::below(bin, x))
 }
 
 // The same behind place h, which has seven more behind it and a bin below x: of those six, or else by halving.
@@ -64,18 +62,20 @@ fn place_in(ix: &CheckedIndex, f: usize, x: u32, h: usize) -> u32
     first_near(ix.bins, s, t, x, place_before(s, h)) as u32
 }
 
-// Puts such a place for each of n frames to the frame's word of `near`. All searches come before all sums, since then nothing but
+// Puts such a place for each of some frames to the frame's word of `near`. All searches come before all sums, since then nothing but
 // searches stands between the readings of two frames' bins, and these overlap.
-fn put_places(ix: &CheckedIndex, from: usize, n: usize, x: u32, near: &mut [u32])
-    requires { (from + n < length ix.now.starts) × (from + n ≤ length near.old) }
-    ensures { Placed ix.now from n x near.new }
+fn put_places(ix: &CheckedIndex, frames: FrameRange, x: u32, near: &mut [u32])
+    requires { (frames.from + frames.count < length ix.now.starts) × (frames.from + frames.count ≤ length near.old) }
+    ensures { Placed ix.now frames.from frames.count x near.new }
 {
-    for (k, place) in near[from..from + n].iter_mut().enumerate() {
+    let from = frames.from;
+    for (k, place) in near[from..from + frames.count].iter_mut().enumerate() {
         *place = place_in(ix, from + k, x, *place as usize);
     }
 }
 
-// The points of frame f whose bins lie in the window, the first of which is at place i. Where there are none the offsets are not read.
+// The points of frame f whose bins lie in the window, the first of which is at place i. Where there are none the offsets are not read: any
+// empty span serves. The offsets of any others make the span as in `span_of` of framesums.
 fn span_from(ix: &CheckedIndex, f: usize, w: Window, i: usize) -> Span
     requires { (f + 1 < length ix.now.starts)
         × FirstIn ix.now f w.bin_lo i }
@@ -93,32 +93,33 @@ fn span_from(ix: &CheckedIndex, f: usize, w: Window, i: usize) -> Span
     }
 }
 
-// A sum for each of n frames whose first places are known.
-fn put_sums(ix: &CheckedIndex, from: usize, n: usize, w: Window, near: &[u32], out: &mut [f32])
-    requires { (from + n < length ix.now.starts) × (from + n ≤ length near.now) × (n ≤ length out.old)
-        × Placed ix.now from n w.bin_lo near.now }
-    ensures { out.new ≡ frame_sums ix.now w from n ++ drop n out.old }
+// A sum for each of some frames whose first places are known. The number k tells the frame too, so that with a `zip` the loop would count
+// besides, and take its three parts from a pair in a pair.
+fn put_sums(ix: &CheckedIndex, frames: FrameRange, w: Window, near: &[u32], out: &mut [f32])
+    requires { (frames.from + frames.count < length ix.now.starts) × (frames.from + frames.count ≤ length near.now) × (frames.count ≤ length out.old)
+        × Placed ix.now frames.from frames.count w.bin_lo near.now }
+    ensures { out.new ≡ frame_sums ix.now w frames.from frames.count ++ drop frames.count out.old }
 {
     let scans = ix.scans;
     let readings = ix.readings;
-    for (k, &i) in near[from..from + n].iter().enumerate() {
+    let from = frames.from;
+    for (k, &i) in near[from..from + frames.count].iter().enumerate() {
         let p = span_from(ix, from + k, w, i as usize);
         out[k] = framesums::inner::add_points(scans, readings, p, w, 0.0);
     }
 }
 
-// A sum for each of n frames. `near` has a word for each frame of the run: where the last search of it ended, of whatever window.
+// A sum for each of some frames. `near` has a word for each frame of the run: where the last search of it ended, of whatever window.
 pub fn put_frame_sums_near(
     ix: &CheckedIndex,
-    from: usize,
-    n: usize,
+    frames: FrameRange,
     w: Window,
     near: &mut [u32],
     out: &mut [f32],
 )
-    requires { (from + n < length ix.now.starts) × (from + n ≤ length near.old) × (n ≤ length out.old) }
-    ensures { out.new ≡ frame_sums ix.now w from n ++ drop n out.old }
+    requires { (frames.from + frames.count < length ix.now.starts) × (frames.from + frames.count ≤ length near.old) × (frames.count ≤ length out.old) }
+    ensures { out.new ≡ frame_sums ix.now w frames.from frames.count ++ drop frames.count out.old }
 {
-    put_places(ix, from, n, w.bin_lo, near);
-    put_sums(ix, from, n, w, near, out);
+    put_places(ix, frames, w.bin_lo, near);
+    put_sums(ix, frames, w, near, out);
 }

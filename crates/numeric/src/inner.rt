@@ -1,7 +1,7 @@
 // Steps of other crates, for arguments that they have checked.
 ghost use Rattle.std.specs.Prelude.{◌≡◌, ◌≤◌, T, min, max, length, pos};
 ghost use Rattle.std.specs.Float.{binary32};
-ghost use Rattle.std.specs.Float.Ieee.{of_int, fits};
+ghost use Rattle.std.specs.Float.Ieee.{of_int, fits, of_bits, to_bits};
 ghost use Rattle.limits.specs.Limits.{exact_index};
 ghost use Rattle.numeric.specs.Numeric.{all_in_range};
 ghost use Rattle.numeric.specs.Plain.{AllFit};
@@ -28,7 +28,16 @@ fn fit(x: f32)
     ensures { T (fits binary32 x) }
 {}
 
-// The same of all readings of a row.
+// The pattern under which a float is kept, which tells it.
+pub fn kept_word(x: f32) -> u32
+    ensures word { result ≡ to_bits binary32 x }
+    ensures tells { of_bits binary32 result ≡ x }
+    ensures fit { T (fits binary32 x) }
+{
+    super::word_of(x)
+}
+
+// What is known of every f32, of all readings of a row.
 pub fn all_fit(y: &[f32])
     ensures { AllFit y.now }
 {

@@ -1,12 +1,12 @@
 -- Laws of rising lists, and of numbers up to a limit.
-use mathlib.Core.Path.{◌≡◌, sym, ◌∙◌}
+use mathlib.Core.Path.{◌≡◌, refl, sym, ◌∙◌}
 use mathlib.Core.Bool.{true, ◌&&◌, Bool}
 use mathlib.Core.List.{List, [], ◌∷◌}
-use Prim.Native.Nat.{ℕ, zero, suc, ◌≤◌, ◌<◌, ◌+◌}
+use Prim.Native.Nat.{ℕ, zero, suc, ◌≤◌}
 use native.Mathlib.Omega.{arith}
 use lib.Dec.{ltb, leb}
 use lib.ListN.{get_or}
-use Rattle.params.specs.Params.{rising_from, rising, all_up_to}
+use Rattle.params.specs.Params.{all_neighbours, rising_from, rising, all_up_to}
 use borrow.Author.Tests.{leb-true}
 use Rattle.std.proofs.lemmas.Bool.{and_parts}
 use Rattle.std.specs.List.{fold, zip}
@@ -25,6 +25,7 @@ unfolding rising_from
 rising-from-fold s [] all = sym (and-true all)
 rising-from-fold s (t ∷ l) all = rising-from-fold t l (all && ltb s t) ∙ and_assoc all (ltb s t) (rising_from t l)
 
-pub rising-fold : (l rest : List ℕ) (s : ℕ) → l ≡ s ∷ rest → fold (λ (all : Bool) (p : ℕ × ℕ). all && ltb p.0 p.1) true (zip l rest) ≡ rising l
+pub rising-fold : (l : List ℕ) → all_neighbours ltb l ≡ rising l
 unfolding rising
-rising-fold l rest s e = rw e (rising-from-fold s rest true)
+rising-fold [] = refl
+rising-fold (s ∷ l) = rising-from-fold s l true

@@ -1,5 +1,6 @@
 -- What document 01 asks of detection's parameters, of scan axes and of identities.
-use Rattle.std.specs.Prelude.{Bool, true, ◌&&◌, ◌||◌, List, [], ◌∷◌, ℕ, ◌+◌, ◌-◌, ◌/◌, leb, ltb, eqb, length, Float}
+use Rattle.std.specs.Prelude.{Bool, true, ◌&&◌, ◌||◌, List, [], ◌∷◌, ℕ, ◌+◌, ◌-◌, ◌/◌, leb, ltb, eqb, length, drop, Float}
+use Rattle.std.specs.List.{fold, zip}
 use Rattle.limits.specs.Limits.{max_height, max_count, last_frame, max_tof_bound, identities}
 use Rattle.numeric.specs.Numeric.{in_range}
 use Rattle.params.specs.declared.ImDetectParams.{ImDetectParams}
@@ -29,6 +30,10 @@ sound_tof r = leb r.tof_center max_tof_bound && leb r.tof_lo max_tof_bound && le
 -- identities from the first on, one for each peak that the sizes allow, none past 2^32 - 1
 abbrev pub enough_ids : ℕ → ℕ → Bool
 enough_ids first peaks = leb (first + peaks) identities
+
+-- a test holds of each value and the next
+abbrev pub all_neighbours : {A : Type 0} → (A → A → Bool) → List A → Bool
+all_neighbours says l = fold (λ (all : Bool) (p : _ × _). all && says p.0 p.1) true (zip l (drop 1 l))
 
 -- a scan axis: none above a limit, and strictly rising
 unfoldable pub all_up_to : ℕ → List ℕ → Bool

@@ -1,6 +1,6 @@
 // The checks of parameters, scan axes and identities.
-ghost use Rattle.std.specs.Prelude.{◌≡◌, length};
-ghost use Rattle.params.specs.Params.{most_peaks, lent_or_empty, sound_params, sound_bounds, sound_tof, enough_ids, all_up_to, rising};
+ghost use Rattle.std.specs.Prelude.{◌≡◌, Bool, length};
+ghost use Rattle.params.specs.Params.{most_peaks, lent_or_empty, sound_params, sound_bounds, sound_tof, enough_ids, all_up_to, all_neighbours, rising};
 
 use super::{FrameBounds, ImDetectParams, RowPlace};
 use limits::PeakId;
@@ -30,14 +30,22 @@ pub fn all_up_to(limit: u32, axis: &[u32]) -> bool
     axis.iter().fold(true, |all, &s| all & (s <= limit))
 }
 
-#[tactic(auto, unfolding(crate::specs::Params::rising, crate::specs::Params::rising_from))]
+// Whether a test holds of each value and the next. All are looked at, many at once.
+pub fn all_neighbours<T: Copy, F: Fn(T, T) -> bool>(list: &[T], test: F) -> bool
+    requires { F.IsAlwaysCallable test }
+    ensures { (says : T → T → Bool) → ((x y : T) (r : Bool) → F.post test x y r → r ≡ says x y) → result ≡ all_neighbours says list.now }
+{
+    let Some((_, rest)) = list.split_first() else {
+        return true;
+    };
+    list.iter()
+        .zip(rest)
+        .fold(true, |all, (&x, &next)| all & test(x, next))
+}
+
+// Whether each number is above the one before it.
 pub fn is_rising(axis: &[u32]) -> bool
     ensures { result ≡ rising axis.now }
 {
-    let Some((_, rest)) = axis.split_first() else {
-        return true;
-    };
-    axis.iter()
-        .zip(rest)
-        .fold(true, |all, (&last, &s)| all & (last < s))
+    all_neighbours(axis, |last, s| last < s)
 }

@@ -33,6 +33,7 @@ fn gather(list: &[u32], order: &[u32], sorted: &mut [u32])
     requires { Within list.now order.now × (length order.now * size ≤ length sorted.old) }
     ensures { sorted.new ≡ records_at list.now order.now ++ drop (length order.now * size) sorted.old }
 {
+    // By number, as `keys` writes its table: of what is written through chunks the proof knows its length alone.
     for (i, &place) in order.iter().enumerate() {
         copy_at(list, place as usize, sorted, i);
     }

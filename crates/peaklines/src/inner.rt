@@ -3,20 +3,22 @@ ghost use Rattle.std.specs.Prelude.{◌≡◌, true, List, ◌++◌, ℕ, ◌≤
 ghost use Rattle.table.specs.Sizes.{line_room, max_fields, put_room};
 ghost use Rattle.numeric.specs.Arith.{𝟎};
 ghost use Rattle.params.specs.Params.{most_peaks};
-ghost use Rattle.rowsearch.specs.Qualifying.{highest_reading, reaches};
+ghost use Rattle.rowsearch.specs.Qualifying.{highest_reading, reaches, kept};
 ghost use Rattle.rowsearch.specs.Found.{Searchable, Standing};
 ghost use Rattle.rowsearch.specs.Room.{Sizes};
 ghost use Rattle.table.specs.Print.{peak_line};
 ghost use Rattle.table.specs.Table.{verdict};
-ghost use Rattle.peaklines.specs.RowLines.{place_of, no_frames, no_axes, row_lines, Printable, Printed};
+ghost use Rattle.peaklines.specs.RowLines.{place_of, no_frames, no_axes, Printable, Printed};
 ghost use Rattle.peaklines.specs.TableText.{peaks_text, text_of, line_text, Counted, Sound};
 
 use params::{FrameBounds, ImDetectParams, RowPlace};
 use record::ImPeak1D;
-use row::inner::OnAxes;
+use row::inner::{OnAxes, Row};
 use rowsearch::scratch::{Arrays, Scratch};
 use table::{Progress, RowsSoFar, Verdict};
 
+// A place, frames and axes for what no line prints. They are no `Default` of their types: in row and params, where those stand, zeros are
+// values like others.
 fn place_of(tof_row: u32) -> RowPlace
     ensures { result ≡ place_of tof_row }
 {
@@ -62,17 +64,26 @@ fn append_line(out: &mut [u8], at: usize, p: ImPeak1D) -> usize
 
 // Writes the lines of the n apexes that stand in `found` to the front of `out`, the oldest first, and answers how many bytes they are. By
 // place: of chunks of `found`, which is longer than the apexes, each apex would be read at place 0 of the one at hand, in no fewer lines.
+// `found` and n are no `Apexes` as in rtplaces, where six functions take both: here one does, from the search that told them.
 fn put_peak_lines(found: &[u32], n: usize, y: &[f32], tof_row: u32, out: &mut [u8]) -> usize
     requires { Printable y.now (length out.old) × (n ≤ most_peaks (length y.now)) × ((ks : List ℕ) × Standing y.now y.now found.now n ks) }
     ensures { (ks : List ℕ) → Standing y.now y.now found.now n ks → Printed tof_row y.now out.old out.new result ks }
 {
     let place = place_of(tof_row);
     let bounds = no_frames();
+    let row = Row {
+        y,
+        z: y,
+        place,
+        bounds,
+        mobility: (),
+        axis: (),
+    };
     let on = no_axes();
     let mut at = 0usize;
     for j in 0..n {
         let a = rowsearch::inner::measured_at(found, j);
-        let peak = row::inner::peak_on(y, y, place, bounds, on, a, 0);
+        let peak = row.peak_on(on, a, 0);
         at = append_line(out, at, peak);
     }
     at
@@ -87,8 +98,7 @@ fn put_lines_by(
     out: &mut [u8],
 ) -> usize
     requires { Printable y.now (length out.old) × Searchable p y.now y.now scratch.old.samples }
-    ensures count { result ≡ length (row_lines p tof_row y.now) }
-    ensures front { out.new ≡ row_lines p tof_row y.now ++ drop result out.old }
+    ensures { Printed tof_row y.now out.old out.new result (kept p y.now y.now) }
 {
     let n = rowsearch::inner::find_apexes(y, y, p, scratch);
     put_peak_lines(scratch.found, n, y, tof_row, out)
@@ -105,8 +115,7 @@ fn put_lines_in<const N: usize, const B: usize>(
 ) -> usize
     requires row { Printable y.now (length out.old) × (reaches p.min_prom (highest_reading 𝟎 y.now) ≡ true) × (length y.now ≤ N) }
     requires sizes { Sizes N B }
-    ensures count { result ≡ length (row_lines p tof_row y.now) }
-    ensures front { out.new ≡ row_lines p tof_row y.now ++ drop result out.old }
+    ensures { Printed tof_row y.now out.old out.new result (kept p y.now y.now) }
 {
     let mut lists = Arrays::<N, B>::new();
     put_lines_by(y, tof_row, p, &mut lists.lend(N), out)
@@ -116,8 +125,7 @@ fn put_lines_in<const N: usize, const B: usize>(
 // floor has none.
 pub fn put_row_lines(y: &[f32], tof_row: u32, p: ImDetectParams, out: &mut [u8]) -> usize
     requires { Printable y.now (length out.old) }
-    ensures count { result ≡ length (row_lines p tof_row y.now) }
-    ensures front { out.new ≡ row_lines p tof_row y.now ++ drop result out.old }
+    ensures { Printed tof_row y.now out.old out.new result (kept p y.now y.now) }
 {
     if !rowsearch::inner::reaches_floor(y, p.min_prom) {
         return 0;
@@ -163,7 +171,7 @@ pub struct LineDone {
 }
 
 // Writes what is printed for the next line, given without its CR LF, to the front of `out`. Of `row` the first 4,096 places may
-// have been written.
+// have been written. The two lists stand apart, since callers lend a part of `out`.
 pub fn put_line(s: Progress, line: &[u8], row: &mut [f32], out: &mut [u8]) -> LineDone
     requires { (max_fields ≤ length row.old) × (line_room ≤ length out.old) }
     ensures verdict { result.verdict ≡ verdict s line.now }

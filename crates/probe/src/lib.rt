@@ -193,6 +193,7 @@ pub extern "C" fn probe_sound(list: &[u32], k: usize) -> u32
     2
 }
 
+// The flag is a bool: no check follows that could refuse another word, as in `capi`, which this crate does not use.
 pub fn group_of(grouped: bool, window_group: u32) -> Option<u32>
     ensures { result ≡ group_of grouped window_group }
 {
@@ -204,10 +205,9 @@ pub fn group_of(grouped: bool, window_group: u32) -> Option<u32>
 pub extern "C" fn probe_smooth(v: &mut [f32], weights: &[f32], scratch: &mut [f32]) -> u32
     ensures { result ≡ smooth_number v.old weights.now (length scratch.old) }
 {
-    match smoothing::smooth_vector_gaussian(v, weights, scratch) {
-        Ok(()) => 0,
-        Err(refusal) => refusal.number(),
-    }
+    smoothing::smooth_vector_gaussian(v, weights, scratch)
+        .err()
+        .map_or(0, |refusal| refusal.number())
 }
 
 // 64 times the count of peaks, and the number.

@@ -1,12 +1,12 @@
 -- Laws of records in a buffer.
 use mathlib.Core.Path.{◌≡◌, refl, ◌∙◌, ap, sym}
 use mathlib.Core.Bool.{◌&&◌}
-use mathlib.Core.List.{List, [], ◌++◌, append-nil}
+use mathlib.Core.List.{List, [], ◌++◌, append-nil, append_assoc}
 use Prim.Native.Nat.{ℕ, zero, suc, ◌≤◌, ◌<◌, ◌+◌, ◌-◌, ◌*◌}
 use native.Mathlib.Nat.{zero-add}
 use native.Mathlib.Omega.{arith}
 use lib.ListN.{length, drop, take, get_or, length-drop, length-append, get_or-append, drop_of_length-le}
-use lib.Seq.{get_or-take, get_or-drop, take_all, drop-drop, sets, sets-eq, take-append_seam, drop-append-add, drop-append_seam}
+use lib.Seq.{get_or-take, get_or-drop, length-take-le, take_all, drop-drop, take-append_seam, drop-append_seam}
 use borrow.Rule.Slice.PartMut.{put_mid}
 use Rattle.std.specs.List.{list_all}
 use Rattle.std.specs.Simd.{first_chunks}
@@ -27,13 +27,21 @@ put-part out R last a r hl =
 pub put-record : {A : Type 0} (out R last : List A) (a r : ℕ) → last ≡ R → put_mid a (a + r - a) out last ≡ take a out ++ (R ++ drop (a + r) out)
 put-record out R last a r e = let n : a + r - a ≡ r = omega arith in rw (e, n, drop-drop r a out)
 
--- words ws stored at the front of d one by one, and then others, R, right behind them
-pub put-behind : {A : Type 0} (ws R d last : List A) (r : ℕ) → length ws + r ≤ length d
-    → last ≡ take (length ws) (sets d 0 ws) ++ (R ++ drop (length ws + r) (sets d 0 ws))
-    → last ≡ ws ++ (R ++ drop (length ws + r) d)
-put-behind ws R d last r h e =
-    let s : sets d 0 ws ≡ ws ++ drop (length ws) d = rw zero-add at (sets-eq ws d 0 (omega arith)) in
-    e ∙ rw (s, take-append_seam, drop-append-add, drop-drop)
+-- the same of two parts, one right behind the other
+pub put-two : {A : Type 0} (out R S last final : List A) (a r s : ℕ) → a + (r + s) ≤ length out → length R ≡ r → last ≡ R → final ≡ S
+    → put_mid (a + r) (a + (r + s) - (a + r)) (put_mid a (a + r - a) out last) final ≡ take a out ++ ((R ++ S) ++ drop (a + (r + s)) out)
+put-two out R S last final a r s h l e f =
+    let first = put-record out R last a r e in
+    let front : length (take a out) ≡ a = length-take-le a out (omega arith) in
+    let n : a + (r + s) - (a + r) ≡ s = omega arith in
+    let m : length (take a out ++ R) ≡ a + r = simp (length-append, front, l) in
+    let D = drop (a + r) out in
+    let F = take a out ++ R in
+    let again : take a out ++ (R ++ D) ≡ F ++ D = sym (append_assoc (take a out) R D) in
+    let t : take (a + r) (F ++ D) ≡ F = rw m at (take-append_seam F D) in
+    let d : drop (a + r) (F ++ D) ≡ D = rw m at (drop-append_seam F D) in
+    let k : a + r + s ≡ a + (r + s) = omega arith in
+    rw (n, f, first, again, t, d, drop-drop s (a + r) out, k) (simp append_assoc)
 
 -- the first records of a list are those of its front
 pub front-peak : (list : List ℕ) (n k : ℕ) → k < n → peak_at (take (n * size) list) k ≡ peak_at list k

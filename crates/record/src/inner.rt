@@ -1,7 +1,8 @@
 // Reading and writing records in lists that the caller has checked.
-ghost use Rattle.std.specs.Prelude.{◌≡◌, ◌++◌, ◌≤◌, ◌+◌, ◌*◌, ◌/◌, ltb, eqb, length, take, drop};
+ghost use Rattle.std.specs.Prelude.{◌≡◌, ◌++◌, ◌≤◌, ◌+◌, ◌*◌, ◌/◌, ltb, eqb, length, take, drop, Bool, not, ◌||◌, Float};
+ghost use Rattle.std.specs.Bool.{then_some};
 ghost use Rattle.record.specs.Record.{size, id_at, words_of, peak_from, peak_at, with_peak};
-ghost use Rattle.record.specs.Record.{sound_tof, sound_frames, sound_options, sound_scans, sound_shape, sound, all_sound};
+ghost use Rattle.record.specs.Record.{modest, sound_tof, sound_frames, sound_options, sound_scans, sound_shape, sound, all_sound};
 
 use super::{ImPeak1D, PeakId};
 
@@ -135,17 +136,18 @@ fn sound_frames(w: &[u32; ImPeak1D::WORDS]) -> bool
         & (w[ImPeak1D::FRAME_ID_LO] <= w[ImPeak1D::FRAME_ID_HI])
 }
 
+// Whether a value is not above the highest mobility, or is missing.
+fn is_modest(value: Option<f32>) -> bool
+    ensures { (there : Bool) (x : Float) → value ≡ then_some there x → result ≡ (not there || modest x) }
+{
+    value.is_none_or(|x| numeric::in_range(x, limits::MAX_MOBILITY))
+}
+
 fn sound_options(w: &[u32; ImPeak1D::WORDS]) -> bool
     ensures { result ≡ sound_options (peak_from w.now 0) }
 {
-    // of a slice the proof knows that its words fit
-    let w = w.as_slice();
-    let flags = w[ImPeak1D::FLAGS];
-    let sigma = flags / ImPeak1D::HAS_SIGMA % 2 == 1;
-    let mobility = flags / ImPeak1D::HAS_MOBILITY % 2 == 1;
-    (flags <= 7)
-        & (!sigma | (w[ImPeak1D::SCAN_SIGMA] <= limits::MAX_MOBILITY))
-        & (!mobility | (w[ImPeak1D::MOBILITY] <= limits::MAX_MOBILITY))
+    let p = peak_from(w);
+    (p.flags <= 7) & is_modest(p.sigma()) & is_modest(p.mobility())
 }
 
 #[tactic(auto, unfolding(crate::specs::Record::sound_scans, crate::specs::Record::peak_from))]

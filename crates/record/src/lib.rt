@@ -3,6 +3,10 @@
 
 pub mod inner;
 
+ghost use Rattle.std.specs.Prelude.{◌≡◌, eqb, ◌/◌, ◌%◌, ◌<◌};
+ghost use Rattle.std.specs.Bool.{then_some};
+ghost use Rattle.record.specs.Record.{has_group, has_mobility, has_sigma};
+
 // Peak identities. They stand last in a record, and are read, written and compared only by the functions that name them.
 pub use limits::PeakId;
 
@@ -106,4 +110,31 @@ impl ImPeak1D {
     pub const SUBSCAN: usize = 25;
 
     pub const ID: usize = 26;
+
+    // Whether a bit of `flags` is set.
+    fn has(self, bit: u32) -> bool
+        requires { 0 < bit }
+        ensures { result ≡ eqb (self.flags / bit % 2) 1 }
+    {
+        self.flags / bit % 2 == 1
+    }
+
+    // The three fields that may be missing.
+    pub fn group(self) -> Option<u32>
+        ensures { result ≡ then_some (has_group self) self.window_group }
+    {
+        self.has(ImPeak1D::HAS_GROUP).then_some(self.window_group)
+    }
+
+    pub fn mobility(self) -> Option<f32>
+        ensures { result ≡ then_some (has_mobility self) self.mobility }
+    {
+        self.has(ImPeak1D::HAS_MOBILITY).then_some(self.mobility)
+    }
+
+    pub fn sigma(self) -> Option<f32>
+        ensures { result ≡ then_some (has_sigma self) self.scan_sigma }
+    {
+        self.has(ImPeak1D::HAS_SIGMA).then_some(self.scan_sigma)
+    }
 }

@@ -2,7 +2,7 @@
 //  1 max  2 min  3 abs  4 clamp  5 floor  6 ceil  7 round  8 x as u32  9 n as f32  10 bits  11 lerp  12 quad_subsample
 //  16 area of two places and a row  17 its number  18 candidate of an index and a row  19 prominence  20 left crossing of the
 //  half height  21 right crossing  22 whether a record is sound
-use super::lines::{Answer, short};
+use super::lines::Answer;
 use hexlines::parts::Line;
 
 fn word(line: &mut Line<'_>) -> Option<u32> {
@@ -41,14 +41,10 @@ fn scalar(function: u32, line: &mut Line<'_>) -> Option<f32> {
 fn area(function: u32, line: &mut Line<'_>) -> Option<u32> {
     let from = float(line)?;
     let to = float(line)?;
-    let r = probe::probe_area(row(line)?, from, to);
-    let area = match (r / 4294967296) as u32 {
-        0 => Ok(r as u32),
-        number => Err(number),
-    };
+    let area = area::trapezoid_area_fractional(row(line)?, from, to);
     Some(match function {
-        17 => area.err().unwrap_or(0),
-        _ => area.unwrap_or(0xffff_ffff),
+        17 => area.err().map_or(0, |refusal| refusal.number()),
+        _ => area.map_or(0xffff_ffff, numeric::word_of),
     })
 }
 
@@ -73,7 +69,7 @@ fn value(function: u32, line: &mut Line<'_>) -> Option<u32> {
     }
 }
 
-pub(crate) fn leaf(line: &mut Line<'_>) -> Option<Answer> {
+pub(crate) fn leaf(line: &mut Line<'_>) -> Option<Answer<1>> {
     let function = word(line)?;
-    Some(short(1, value(function, line)?, 0, 0))
+    Some(Answer::of([value(function, line)?]))
 }

@@ -1,56 +1,70 @@
-// An answer, and its comparison with a line.
-use hexlines::parts::{Line, word};
+// What the call of a line is lent, and the comparison of its answer with the line.
+use hexlines::parts::{Line, kept, patterns, word};
 
 // The words that a line may have.
 pub(crate) const ROOM: usize = 4096;
 
-// An answer: its first words and how many there are, and how many more stand in the lent list or in the smoothed row. The scratch may have
-// changed in front of a place.
-#[derive(Clone, Copy)]
-pub(crate) struct Answer {
-    pub head: usize,
-    pub words: [u32; 5],
+// What scratch holds at first.
+const BEFORE: f32 = 7.0;
+
+// What is lent: floats for a row, words for records, and scratch.
+#[derive(Drop)]
+pub(crate) struct Lent {
+    pub v: [f32; ROOM],
+    pub out: [u32; ROOM],
+    pub scratch: [f32; ROOM],
+}
+
+// An answer: its first words, how many more stand in a lent list, and from where on scratch must be as it was.
+#[derive(Drop)]
+pub(crate) struct Answer<const N: usize> {
+    pub words: [u32; N],
     pub rest: usize,
     pub scratched: usize,
 }
 
-// An answer of up to three words.
-pub(crate) fn short(head: usize, a: u32, b: u32, c: u32) -> Answer {
-    Answer {
-        head,
-        words: [a, b, c, 0, 0],
-        rest: 0,
-        scratched: 0,
+impl<const N: usize> Answer<N> {
+    // An answer of words alone.
+    pub(crate) fn of(words: [u32; N]) -> Self {
+        Answer {
+            words,
+            rest: 0,
+            scratched: 0,
+        }
+    }
+
+    // Whether the answer, and what is lent after it, is what is left of a line.
+    pub(crate) fn judged(self, lent: &Lent, mut line: Line<'_>) -> Option<bool> {
+        let head = line.take_words(N)?;
+        let rest = line.take_words(self.rest)?;
+        Some(
+            (head == self.words.as_slice())
+                & line.rest().is_empty()
+                & lent.holds(rest)
+                & kept(
+                    &patterns(&lent.scratch),
+                    self.scratched,
+                    numeric::word_of(BEFORE),
+                ),
+        )
     }
 }
 
-// Whether words are those of a list, or bit patterns of floats where the list is all 0, and 0 past them.
-fn same(words: &[u32], list: &[u32; ROOM], v: &[f32; ROOM]) -> bool {
-    list.iter()
-        .zip(v)
-        .enumerate()
-        .all(|(i, (w, x))| word(words, i) == *w | numeric::word_of(*x))
-}
+impl Lent {
+    pub(crate) fn new() -> Self {
+        Lent {
+            v: [0.0; ROOM],
+            out: [0; ROOM],
+            scratch: [BEFORE; ROOM],
+        }
+    }
 
-// Whether scratch has 7.0 from a place on.
-fn kept(scratch: &[f32; ROOM], from: usize) -> bool {
-    scratch.iter().skip(from).all(|x| *x == 7.0)
-}
-
-// Whether an answer is what is left of a line.
-pub(crate) fn judged(
-    mut line: Line<'_>,
-    a: Answer,
-    list: &[u32; ROOM],
-    v: &[f32; ROOM],
-    scratch: &[f32; ROOM],
-) -> Option<bool> {
-    let head = line.take_words(a.head)?;
-    let rest = line.take_words(a.rest)?;
-    Some(
-        a.words.starts_with(head)
-            & line.rest().is_empty()
-            & same(rest, list, v)
-            & kept(scratch, a.scratched),
-    )
+    // Whether the lent words are those of a list, or the bit patterns of the lent floats where the words are all 0, and 0 past them.
+    fn holds(&self, words: &[u32]) -> bool {
+        self.out
+            .iter()
+            .zip(&self.v)
+            .enumerate()
+            .all(|(i, (w, x))| word(words, i) == *w | numeric::word_of(*x))
+    }
 }

@@ -8,41 +8,28 @@ mod lines;
 mod scales;
 
 use hexlines::parts::{Line, spread, word};
-use lines::{Answer, ROOM};
+use lines::{Lent, ROOM};
 
-// The port's answer to a line; None where the line is too short for its call, or of no function.
-fn answer(
-    function: u32,
-    line: &mut Line<'_>,
-    v: &mut [f32; ROOM],
-    out: &mut [u32; ROOM],
-    scratch: &mut [f32; ROOM],
-) -> Option<Answer> {
-    match function {
-        0..32 => leaves::leaf(line),
-        32 => levels::row(line, out),
-        33 => levels::smoothing(line, v, scratch),
-        40 => scales::build(line),
-        48 => levels::grid(line, out, scratch),
-        _ => scales::scale(line),
-    }
-}
-
-// Whether a line has its answer, with fresh lists lent.
+// Whether a line has the port's answer, with fresh lists lent; None where it is too short for its call, or of no function.
 fn judged(words: &[u32]) -> Option<bool> {
-    let f: [f32; ROOM] = spread(words);
-    let mut v = [0f32; ROOM];
-    let mut out = [0u32; ROOM];
-    let mut scratch = [7f32; ROOM];
-    let mut line = Line::new(words, &f);
-    let a = answer(word(words, 0), &mut line, &mut v, &mut out, &mut scratch)?;
-    lines::judged(line, a, &out, &v, &scratch)
+    let floats: [f32; ROOM] = spread(words);
+    let mut line = Line::new(words, &floats);
+    let mut lent = Lent::new();
+    match word(words, 0) {
+        0..32 => leaves::leaf(&mut line)?.judged(&lent, line),
+        32 => levels::row(&mut line, &mut lent)?.judged(&lent, line),
+        33 => levels::smoothing(&mut line, &mut lent)?.judged(&lent, line),
+        40 => scales::build(&mut line)?.judged(&lent, line),
+        48 => levels::grid(&mut line, &mut lent)?.judged(&lent, line),
+        _ => scales::scale(&mut line)?.judged(&lent, line),
+    }
 }
 
 fn agrees(words: &[u32]) -> bool {
     judged(words).unwrap_or(false)
 }
 
+// The reading is shared (hexlines::replay); the print needs the runtime.
 fn main(rt: HostRuntime) {
     let tally = hexlines::replay::replay_all::<{ lines::ROOM }, _>(&mut rt.stdin(), |words| {
         agrees(words)

@@ -1,7 +1,7 @@
 // A line of a frame: 1; the lengths of its TOF values, scans and readings; the scale, the count of scans and the points before it; the
 // words that are lent of the seven lists; the three lists. Then the number, the counts of bins, offsets and points, and these.
-use super::lines::{BEFORE, ROOM, Stored, has, kept, lent, patterns};
-use hexlines::parts::{Line, word};
+use super::lines::{BEFORE, ROOM, Stored, has, kept, lent};
+use hexlines::parts::{Line, patterns, word};
 
 pub(crate) fn agrees(line: &mut Line<'_>) -> Option<bool> {
     let head = line.take_words(17)?;

@@ -1,6 +1,7 @@
 // Lists that are lent, and the answer of a line.
 ghost use Rattle.std.specs.Prelude.{◌≤◌, ◌<◌, ◌+◌};
 
+use frameindex::FrameIndex;
 use hexlines::parts::{Line, front, word};
 
 // The words that a line may have, and those that are lent at most.
@@ -9,34 +10,23 @@ pub(crate) const ROOM: usize = 1024;
 // What a lent list holds at first; as a float, 7.0.
 pub(crate) const BEFORE: u32 = 0x40e0_0000;
 
-// What is lent of a list: as many places as word i of a line's head says.
+// What is lent of a list: as many places as word i of a line's head says. `replay_answers` counts those in records, and `hexlines` has the
+// part that both share, `front`.
 pub(crate) fn lent<'a, T>(list: &'a mut [T; ROOM], head: &[u32], i: usize) -> &'a mut [T] {
     front(list, word(head, i) as usize)
 }
 
-// The five lists of a frame index.
-#[derive(Clone, Copy)]
-pub(crate) struct Index<'a> {
-    pub starts: &'a [u32],
-    pub bins: &'a [u32],
-    pub offsets: &'a [u32],
-    pub scans: &'a [u32],
-    pub readings: &'a [f32],
-}
-
-impl<'a> Index<'a> {
-    // The next five lists of a line, whose lengths stand in its head from place i on.
-    pub(crate) fn next(line: &mut Line<'a>, head: &[u32], i: usize) -> Option<Self>
-        requires { i + 4 < 0x1_0000_0000_0000_0000 }
-    {
-        Some(Index {
-            starts: line.next_words(head, i)?,
-            bins: line.next_words(head, i + 1)?,
-            offsets: line.next_words(head, i + 2)?,
-            scans: line.next_words(head, i + 3)?,
-            readings: line.next_floats(head, i + 4)?,
-        })
-    }
+// The index whose five lists are the next of a line, with their lengths in its head from place i on.
+pub(crate) fn next_index<'a>(line: &mut Line<'a>, head: &[u32], i: usize) -> Option<FrameIndex<'a>>
+    requires { i + 4 < 0x1_0000_0000_0000_0000 }
+{
+    Some(FrameIndex {
+        starts: line.next_words(head, i)?,
+        bins: line.next_words(head, i + 1)?,
+        offsets: line.next_words(head, i + 2)?,
+        scans: line.next_words(head, i + 3)?,
+        readings: line.next_floats(head, i + 4)?,
+    })
 }
 
 // A number and the counts behind it, as a line has them.
@@ -78,16 +68,7 @@ pub(crate) fn has(list: &[u32; ROOM], words: &[u32]) -> bool {
     list.starts_with(words) && kept(list, words.len())
 }
 
-// The bit patterns of a lent list of floats.
-pub(crate) fn patterns(list: &[f32; ROOM]) -> [u32; ROOM] {
-    let mut words = [0u32; ROOM];
-    for (w, x) in words.iter_mut().zip(list) {
-        *w = numeric::word_of(*x);
-    }
-    words
-}
-
-// Whether scratch is as it was from a place on.
+// Whether a lent list is as it was from a place on.
 pub(crate) fn kept(list: &[u32; ROOM], from: usize) -> bool {
-    list.iter().skip(from).all(|w| *w == BEFORE)
+    hexlines::parts::kept(list, from, BEFORE)
 }

@@ -31,6 +31,7 @@ fn agrees(words: &[u32]) -> bool {
     agrees_in(word(words, 0), &mut Line::new(words, &f)).unwrap_or(false)
 }
 
+// The reading is shared (hexlines::replay); the print needs the runtime.
 fn main(rt: HostRuntime) {
     let tally = hexlines::replay::replay_all::<{ lines::ROOM }, _>(&mut rt.stdin(), |words| {
         agrees(words)

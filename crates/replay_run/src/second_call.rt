@@ -2,14 +2,15 @@
 // times, weights and lengths; the scale, the nine numbers of the parameters, and the first identity; the words that are lent for
 // records, counts and the three lists of scratch; the ten lists. Then the number, the count, the length of the column of counts, the
 // column, and the records.
-use super::lines::{BEFORE, Index, ROOM, Stored, has, kept, lent, patterns};
-use hexlines::parts::{Line, float, word};
+use super::lines::{BEFORE, ROOM, Stored, has, kept, lent, next_index};
+use frameindex::FrameIndex;
+use hexlines::parts::{Line, float, patterns, word};
 
 // The ten lists of a line, five of them in the index.
-#[derive(Clone, Copy)]
+#[derive(Drop)]
 struct Lists<'a> {
     records: &'a [u32],
-    index: Index<'a>,
+    index: FrameIndex<'a>,
     ids: &'a [u32],
     times: &'a [f32],
     weights: &'a [f32],
@@ -20,7 +21,7 @@ impl<'a> Lists<'a> {
     fn next(line: &mut Line<'a>, head: &[u32]) -> Option<Self> {
         Some(Lists {
             records: line.next_words(head, 1)?,
-            index: Index::next(line, head, 2)?,
+            index: next_index(line, head, 2)?,
             ids: line.next_words(head, 7)?,
             times: line.next_floats(head, 8)?,
             weights: line.next_floats(head, 9)?,
@@ -32,7 +33,7 @@ impl<'a> Lists<'a> {
 // The word of the C entry for one mobility peak. The C entries take what they are handed one by one, and so do the two calls.
 fn answer_one(
     head: &[u32],
-    l: Lists<'_>,
+    l: &Lists<'_>,
     out: &mut [u32],
     raw: &mut [f32],
     smooth: &mut [f32],
@@ -72,7 +73,7 @@ fn answer_one(
 // The word of the C entry for many.
 fn answer_many(
     head: &[u32],
-    l: Lists<'_>,
+    l: &Lists<'_>,
     out: &mut [u32],
     counts: &mut [u32],
     raw: &mut [f32],
@@ -126,12 +127,13 @@ pub(crate) fn agrees(line: &mut Line<'_>) -> Option<bool> {
     let lent_raw = lent(&mut raw, head, 27);
     let lent_smooth = lent(&mut smooth, head, 28);
     let lent_order = lent(&mut order, head, 29);
+    // 11 or 12: the two share all but the call, so they are told apart at it.
     let r = if word(head, 0) == 11 {
-        answer_one(head, lists, lent_out, lent_raw, lent_smooth, lent_order)
+        answer_one(head, &lists, lent_out, lent_raw, lent_smooth, lent_order)
     } else {
         answer_many(
             head,
-            lists,
+            &lists,
             lent_out,
             lent_counts,
             lent_raw,

@@ -2,14 +2,15 @@
 // those of many peaks; the lengths of starts, bins, offsets, scans and readings; the floats and the words of scratch that are lent; the
 // length of the list of peaks; nine numbers, as the function takes them, and 0 for those that it does not take; the six lists. Then the
 // number, the count, the count of the sums, and these.
-use super::lines::{BEFORE, Index, ROOM, Stored, has, kept, lent, patterns};
-use hexlines::parts::{Line, word};
+use super::lines::{BEFORE, ROOM, Stored, has, kept, lent, next_index};
+use frameindex::FrameIndex;
+use hexlines::parts::{Line, patterns, word};
 
 // The word of the C entry, for the lists of a line. A match on the function, whose number the stored line has: the entries take different
 // lists.
 fn answer(
     head: &[u32],
-    index: Index<'_>,
+    index: FrameIndex<'_>,
     list: &[u32],
     out: &mut [f32],
     windows: &mut [u32],
@@ -20,7 +21,7 @@ fn answer(
     let d = word(head, 12);
     let e = word(head, 13);
     let f = word(head, 14);
-    let Index {
+    let FrameIndex {
         starts,
         bins,
         offsets,
@@ -62,7 +63,7 @@ fn answer(
 
 pub(crate) fn agrees(line: &mut Line<'_>) -> Option<bool> {
     let head = line.take_words(18)?;
-    let index = Index::next(line, head, 1)?;
+    let index = next_index(line, head, 1)?;
     let list = line.next_words(head, 8)?;
     let stored = Stored::next(line, 2)?;
     let mut out = [7f32; ROOM];

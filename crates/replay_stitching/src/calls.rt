@@ -62,7 +62,7 @@ fn has(rest: &[u32], r: u64, out: &[u32], owners: &[u32], m: usize) -> bool
         & (part(rest, 2 + k, rest.len()) == part(owners, 0, m))
 }
 
-// Whether a line has its answer, with those lists lent.
+// Whether a line has its answer, with those lists lent: one by one, as the entry takes them, for it alone gets them.
 fn judged(
     line: &[u32],
     out: &mut [u32],

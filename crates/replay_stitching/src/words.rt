@@ -2,7 +2,7 @@
 ghost use Rattle.std.specs.Prelude.{◌≡◌, min, take, drop};
 ghost use Rattle.replay_stitching.specs.Replay.{word, room};
 
-use hexlines::parts::word;
+use hexlines::parts::{from_place, word};
 
 // The words that a line may have.
 pub(crate) const ROOM: usize = 4096;
@@ -18,6 +18,6 @@ pub(crate) fn lent(line: &[u32], i: usize) -> usize
 pub(crate) fn part(list: &[u32], from: usize, n: usize) -> &[u32]
     ensures { result.now ≡ take n (drop from list.now) }
 {
-    let rest = list.get(from..).unwrap_or(&[]);
+    let rest = from_place(list, from);
     rest.get(..n).unwrap_or(rest)
 }

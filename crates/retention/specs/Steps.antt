@@ -1,5 +1,5 @@
 -- The steps of the entry: what they ask of their arguments.
-use Rattle.std.specs.Prelude.{◌≡◌, true, List, map, ℕ, ◌*◌, ◌≤◌, ◌<◌, length, get_or, Float}
+use Rattle.std.specs.Prelude.{◌≡◌, true, List, ◌++◌, map, ℕ, ◌*◌, ◌≤◌, ◌<◌, length, get_or, drop, Float}
 use Rattle.limits.specs.Limits.{any_number, exact_index}
 use Rattle.numeric.specs.Numeric.{all_in_range}
 use Rattle.params.specs.Params.{most_peaks}
@@ -7,7 +7,10 @@ use Rattle.rtrecord.specs.RtRecord.{local_size}
 use Rattle.rtrecord.specs.declared.RtLocalPeak.{RtLocalPeak}
 use Rattle.rtapex.specs.InTime.{local_peak_of}
 use Rattle.rtplaces.specs.Places.{index_at}
+use Rattle.rtsearch.specs.Retention.{rt_peaks}
 use Rattle.rtsearch.specs.Steps.{Stands}
+use Rattle.rtsearch.specs.declared.inner.Sought.{Sought}
+use Rattle.retention.specs.Trace.{peak_words}
 
 -- the peaks at some places of what was found
 abbrev pub peaks_at : List Float → List Float → List Float → List ℕ → List ℕ → List RtLocalPeak
@@ -29,3 +32,8 @@ pub record Checked (y z t : List Float) (order room : ℕ) : Type 0 where
   pub times : length t ≡ length y
   pub order-long : most_peaks (length y) ≤ order
   pub words : most_peaks (length y) * local_size ≤ room
+
+-- The records of the peaks of a trace stand at the front of a list, and as many peaks as is answered there are.
+pub record Listed (asked : Sought) (y z t : List Float) (old new : List ℕ) (n : ℕ) : Type 0 where
+  pub count : n ≡ length (rt_peaks asked.floor asked.sep asked.min_width y z t)
+  pub front : new ≡ peak_words (rt_peaks asked.floor asked.sep asked.min_width y z t) ++ drop (n * local_size) old

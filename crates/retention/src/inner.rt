@@ -4,10 +4,9 @@ ghost use Rattle.limits.specs.Limits.{max_frames};
 ghost use Rattle.params.specs.Params.{most_peaks};
 ghost use Rattle.rowsearch.specs.Room.{Sizes};
 ghost use Rattle.rtrecord.specs.RtRecord.{local_size};
-ghost use Rattle.rtsearch.specs.Retention.{rt_peaks};
 ghost use Rattle.rtsearch.specs.Steps.{RtSearchable};
 ghost use Rattle.retention.specs.Trace.{peak_words};
-ghost use Rattle.retention.specs.Steps.{peaks_at, Writable, Checked};
+ghost use Rattle.retention.specs.Steps.{peaks_at, Writable, Checked, Listed};
 
 use rowsearch::scratch::{Arrays, Scratch};
 use rtapex::inner::Trace;
@@ -23,7 +22,8 @@ pub fn put_rt_peaks(trace: Trace, found: &[u32], order: &[u32], out: &mut [u32])
     }
 }
 
-// Writes the records of the peaks of a trace to the front of `out` and answers how many there are. The order is scratch too.
+// Writes the records of the peaks of a trace to the front of `out` and answers how many there are. The order is scratch too. It and `out`
+// stay two parameters: the records are written by an order that is only read.
 pub fn list_rt_peaks(
     trace: Trace,
     asked: Sought,
@@ -32,8 +32,7 @@ pub fn list_rt_peaks(
     out: &mut [u32],
 ) -> usize
     requires { RtSearchable trace.smoothed.now trace.raw.now trace.times.now scratch.old.samples (length order.old) × (most_peaks (length trace.smoothed.now) * local_size ≤ length out.old) }
-    ensures count { result ≡ length (rt_peaks asked.floor asked.sep asked.min_width trace.entry.smoothed.now trace.entry.raw.now trace.entry.times.now) }
-    ensures front { out.new ≡ peak_words (rt_peaks asked.floor asked.sep asked.min_width trace.entry.smoothed.now trace.entry.raw.now trace.entry.times.now) ++ drop (result * local_size) out.old }
+    ensures { Listed asked trace.entry.smoothed.now trace.entry.raw.now trace.entry.times.now out.old out.new result }
 {
     let n = rtsearch::inner::find_rt_apexes(trace, asked, scratch, order);
     put_rt_peaks(trace, scratch.found, &order[..n], out);
@@ -51,8 +50,7 @@ fn list_in<const N: usize, const B: usize>(
 ) -> usize
     requires trace { Checked trace.smoothed.now trace.raw.now trace.times.now (length order.old) (length out.old) × (length trace.smoothed.now ≤ N) }
     requires sizes { Sizes N B }
-    ensures count { result ≡ length (rt_peaks asked.floor asked.sep asked.min_width trace.entry.smoothed.now trace.entry.raw.now trace.entry.times.now) }
-    ensures front { out.new ≡ peak_words (rt_peaks asked.floor asked.sep asked.min_width trace.entry.smoothed.now trace.entry.raw.now trace.entry.times.now) ++ drop (result * local_size) out.old }
+    ensures { Listed asked trace.entry.smoothed.now trace.entry.raw.now trace.entry.times.now out.old out.new result }
 {
     let mut lists = Arrays::<N, B>::new();
     list_rt_peaks(trace, asked, &mut lists.lend(N), order, out)
@@ -61,8 +59,7 @@ fn list_in<const N: usize, const B: usize>(
 // The same for any trace of at most 16,384 frames.
 pub fn find_rt_peaks(trace: Trace, asked: Sought, order: &mut [u32], out: &mut [u32]) -> usize
     requires { Checked trace.smoothed.now trace.raw.now trace.times.now (length order.old) (length out.old) × (length trace.smoothed.now ≤ max_frames) }
-    ensures count { result ≡ length (rt_peaks asked.floor asked.sep asked.min_width trace.entry.smoothed.now trace.entry.raw.now trace.entry.times.now) }
-    ensures front { out.new ≡ peak_words (rt_peaks asked.floor asked.sep asked.min_width trace.entry.smoothed.now trace.entry.raw.now trace.entry.times.now) ++ drop (result * local_size) out.old }
+    ensures { Listed asked trace.entry.smoothed.now trace.entry.raw.now trace.entry.times.now out.old out.new result }
 {
     let n = trace.smoothed.len();
     if n <= 128 {

@@ -5,46 +5,35 @@ ghost use Rattle.numeric.specs.Numeric.{clamp_f, cast_f};
 ghost use Rattle.rounding.specs.Rounding.{floor_f, ceil_f, round_f};
 ghost use Rattle.rounding.specs.Guess.{Whole, Floor};
 
-// Whether g is the whole number at most x. A guess of 0 is not looked at, here and below.
+// Whether g is the whole number at most x. A guess of 0 is not looked at, here and below. One function for the three would take both bounds
+// and whether each of them counts, and share the first test alone.
 fn is_floor(x: f32, g: usize) -> bool
     ensures { result ≡ true → Floor x g }
 {
-    if 0 < g {
-        if g < limits::EXACT_INDEX {
-            if numeric::inner::of_index(g) <= x {
-                return x < numeric::inner::of_index(g + 1);
-            }
-        }
+    if g == 0 || g >= limits::EXACT_INDEX {
+        return false;
     }
-    false
+    numeric::inner::of_index(g) <= x && x < numeric::inner::of_index(g + 1)
 }
 
 // Whether g is the whole number at least x.
 fn is_ceil(x: f32, g: usize) -> bool
     ensures { result ≡ true → Whole (ceil_f x) g }
 {
-    if 0 < g {
-        if g < limits::EXACT_INDEX {
-            if numeric::inner::of_index(g - 1) < x {
-                return x <= numeric::inner::of_index(g);
-            }
-        }
+    if g == 0 || g >= limits::EXACT_INDEX {
+        return false;
     }
-    false
+    numeric::inner::of_index(g - 1) < x && x <= numeric::inner::of_index(g)
 }
 
 // Whether g is the whole number nearest to x.
 fn is_round(x: f32, g: usize) -> bool
     ensures { result ≡ true → Whole (round_f x) g }
 {
-    if 0 < g {
-        if g < 8388608 {
-            if numeric::inner::of_index(g - 1) + 0.5 <= x {
-                return x < numeric::inner::of_index(g) + 0.5;
-            }
-        }
+    if g == 0 || g >= 8388608 {
+        return false;
     }
-    false
+    numeric::inner::of_index(g - 1) + 0.5 <= x && x < numeric::inner::of_index(g) + 0.5
 }
 
 // Rust's `x as u32`.

@@ -5,8 +5,8 @@ use mathlib.Core.List.{List, [], ◌∷◌, ◌++◌, append_assoc}
 use Prim.Native.Nat.{ℕ, ◌≤◌, ◌<◌, ◌+◌, ◌*◌}
 use native.Mathlib.Omega.{arith}
 use native.Mathlib.Nat.{zero-mul, one-mul, add-mul, mul_assoc, mul-le-mul_right}
-use borrow.Author.Tests.{not-false, eqb-true, ltb-false, leb-true}
-use lib.Dec.{eqb}
+use borrow.Author.Tests.{lt-ltb, not-false, eqb-true, ltb-false, leb-true}
+use lib.Dec.{eqb, ltb}
 use lib.ListN.{length, get_or, take, drop, get_or-eq_default}
 use lib.Seq.{take_at, drop-drop, drop-append-add}
 use lib.Ieee.{Float}
@@ -22,8 +22,10 @@ use Rattle.params.specs.Params.{most_peaks, sound_params}
 use Rattle.params.specs.declared.ImDetectParams.{ImDetectParams}
 use Rattle.params.specs.declared.RowPlace.{RowPlace}
 use Rattle.params.specs.declared.FrameBounds.{FrameBounds}
-use Rattle.std.specs.Prelude.{Option, None, Some}
+use Rattle.std.specs.Prelude.{Option, None, Some, cond, is_some}
 use Rattle.std.specs.Option.{unwrap_or}
+use Rattle.std.specs.Bool.{then_some}
+use mathlib.Core.Logic.{◌⊎◌, inl, inr}
 use Rattle.rowsearch.specs.Qualifying.{left_x, right_x, width}
 use Rattle.rowsearch.specs.Found.{measured_of, measured_at, oldest, Searchable}
 use Rattle.rowsearch.specs.declared.inner.Measured.{Measured}
@@ -37,17 +39,11 @@ use Rattle.row.specs.Written.{Written, as_words, stride, with_record}
 use Rattle.row.specs.Steps.{Writable, Numbers, Inside, RecordsPut}
 
 -- ---- the mobility table
-pub no-mobility : (t : List Float) (i : ℕ) → length t ≡ 0 → None ≡ mobility_of t i
-no-mobility [] i h = refl
-no-mobility (m ∷ ms) i h = absurd (omega arith)
-
-pub mobility-in : (t : List Float) (i : ℕ) → i < length t → Some (get_or t i 𝟎) ≡ mobility_of t i
-mobility-in [] i h = absurd (omega arith)
-mobility-in (m ∷ ms) i h = refl
-
-pub mobility-out : (t : List Float) (i : ℕ) → (length t ≡ 0 → ⊥) → length t ≤ i → Some 𝟎 ≡ mobility_of t i
-mobility-out [] i e h = absurd (e refl)
-mobility-out (m ∷ ms) i e h = ap Some (sym (get_or-eq_default (m ∷ ms) 𝟎 h))
+-- what stands in a table of n, or 0 past its end
+pub mobility-here : (t : List Float) (i n : ℕ) (here : Float) → n ≡ length t → ((i < n) × (here ≡ get_or t i 𝟎)) ⊎ ((n ≤ i) × (here ≡ 𝟎)) → then_some (ltb 0 n) here ≡ mobility_of t i
+mobility-here [] i n here e h = rw e refl
+mobility-here (m ∷ ms) i n here e (inl h) = rw (e, lt-ltb 0 (length (m ∷ ms)) (omega arith)) (ap Some h.1)
+mobility-here (m ∷ ms) i n here e (inr h) = rw (e, lt-ltb 0 (length (m ∷ ms)) (omega arith)) (ap Some (h.1 ∙ sym (get_or-eq_default (m ∷ ms) 𝟎 (omega (arith, h.0)))))
 
 -- the fields of a peak by the mobility that it has
 value-is : (t : List Float) (i : ℕ) → mobility_at t i ≡ unwrap_or (mobility_of t i) 𝟎
@@ -58,9 +54,18 @@ mobility-flag-is : (t : List Float) (i : ℕ) → mobility_flag t ≡ flag_of (m
 mobility-flag-is [] i = refl
 mobility-flag-is (m ∷ ms) i = refl
 
+-- a flag by a bool's number
+pub flag-word : {A : Type 0} (field : Option A) (n flag : ℕ) → n ≡ cond (is_some field) 1 0 → n * flag ≡ flag_of field flag
+flag-word None n flag e = rw e (zero-mul flag)
+flag-word (Some v) n flag e = rw e (one-mul flag)
+
 group-flag-is : (g : Option ℕ) → group_flag g ≡ flag_of g 1
 group-flag-is None = refl
 group-flag-is (Some w) = refl
+
+pub group-word-is : (g : Option ℕ) → unwrap_or g 0 ≡ group_word g
+group-word-is None = refl
+group-word-is (Some w) = refl
 
 -- ---- a peak, from what is measured of its apex
 module _ (place : RowPlace) (bounds : FrameBounds) (mobility : List Float) (axis : List ℕ) (y z : List Float) (a : Measured) (id : ℕ) (inside : Inside y z axis a) where

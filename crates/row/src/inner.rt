@@ -2,14 +2,14 @@
 ghost use Rattle.std.specs.Prelude.{◌≡◌, true, List, ◌++◌, ℕ, ◌≤◌, ◌<◌, ◌+◌, ◌*◌, length, drop, Float};
 ghost use Rattle.limits.specs.Limits.{any_number, exact_index, max_samples};
 ghost use Rattle.numeric.specs.Numeric.{all_in_range};
-ghost use Rattle.record.specs.Record.{size};
 ghost use Rattle.params.specs.Params.{most_peaks};
 ghost use Rattle.rowsearch.specs.SameLists.{SameLists};
 ghost use Rattle.rowsearch.specs.Qualifying.{kept};
 ghost use Rattle.rowsearch.specs.Found.{Searchable, Standing};
 ghost use Rattle.rowsearch.specs.Room.{Sizes};
-ghost use Rattle.row.specs.Row.{on_axes, subscan, scan_at, mobility_of, flag_of, group_word, peak_of, row_words};
+ghost use Rattle.row.specs.Row.{on_axes, subscan, scan_at, mobility_of, peak_of};
 ghost use Rattle.row.specs.Steps.{Inside, Writable, Numbers, RecordsPut};
+ghost use Rattle.row.specs.Written.{as_words};
 
 use super::column::Column;
 use super::written::{AsWords, Written};
@@ -25,13 +25,13 @@ fn scan_at<S: Column<u32>>(axis: S, k: usize) -> u32
     axis.item(k.min(axis.count() - 1))
 }
 
-// The same two lines as rtapex's `subframe`: each is the definition of its own level.
+// How far an apex lies from its sample, as apex tells it.
+#[tactic(auto, unfolding(crate::specs::Row::subscan, apex::specs::Apex::offset_of))]
 fn subscan_of(y: &[f32], i: usize) -> f32
     requires { (0 < i) × (i + 1 < length y.now) }
     ensures { result ≡ subscan y.now i }
 {
-    let offset = numeric::quad_subsample(y[i - 1], y[i], y[i + 1]);
-    numeric::clamp(offset, -0.5, 0.5)
+    apex::inner::offset_of(y, i)
 }
 
 // The mobility at a sample, where there are mobilities.
@@ -39,23 +39,8 @@ fn mobility_of<M: Column<f32>>(mobility: M, i: usize) -> Option<f32>
     ensures { result ≡ mobility_of (M.items mobility) i }
 {
     let count = mobility.count();
-    if count == 0 {
-        return None;
-    }
-    Some(if i < count { mobility.item(i) } else { 0.0 })
-}
-
-// The flag of a field that may be missing.
-fn flag_of<T: Copy>(field: Option<T>, flag: u32) -> u32
-    ensures { result ≡ flag_of field flag }
-{
-    if field.is_some() { flag } else { 0 }
-}
-
-fn group_word(g: Option<u32>) -> u32
-    ensures { result ≡ group_word g }
-{
-    g.unwrap_or(0)
+    let here = if i < count { mobility.item(i) } else { 0.0 };
+    (count > 0).then_some(here)
 }
 
 // Where an apex and its two ends lie on the scan axis, and its mobility, if it has one.
@@ -79,54 +64,9 @@ fn on_axes<M: Column<f32>, S: Column<u32>>(mobility: M, axis: S, a: Measured) ->
     }
 }
 
-// The peak of an apex that lies so on some axes.
-pub fn peak_on(
-    y: &[f32],
-    z: &[f32],
-    place: RowPlace,
-    bounds: FrameBounds,
-    on: OnAxes,
-    a: Measured,
-    id: PeakId,
-) -> ImPeak1D
-    requires { (0 < a.index) × (a.index + 1 < length y.now) × (length z.now ≡ length y.now) × (length y.now ≤ exact_index) }
-    ensures { (mobility : List Float) (axis : List ℕ) → Inside y.now z.now axis a → on ≡ on_axes mobility axis a → result ≡ peak_of place bounds mobility axis y.now z.now a.index id }
-{
-    let i = a.index;
-    let group = bounds.window_group;
-    ImPeak1D {
-        tof_row: place.tof_row,
-        tof_center: place.tof_center,
-        tof_lo: place.tof_lo,
-        tof_hi: place.tof_hi,
-        rt_lo: bounds.rt_lo,
-        rt_hi: bounds.rt_hi,
-        frame_id_lo: bounds.frame_id_lo,
-        frame_id_hi: bounds.frame_id_hi,
-        flags: flag_of(group, ImPeak1D::HAS_GROUP) + flag_of(on.mobility, ImPeak1D::HAS_MOBILITY),
-        window_group: group_word(group),
-        scan: i as u32,
-        left: a.left,
-        right: a.right,
-        scan_abs: on.scan,
-        left_abs: on.left,
-        right_abs: on.right,
-        scan_sigma: 0.0,
-        mobility: on.mobility.unwrap_or(0.0),
-        apex_smoothed: y[i],
-        apex_raw: z[i],
-        prominence: a.prominence,
-        left_x: a.left_x,
-        right_x: a.right_x,
-        width_scans: a.width,
-        area_raw: a.area,
-        subscan: subscan_of(y, i),
-        id,
-    }
-}
-
 // A row whose peaks are listed: the samples that are searched, the readings, where they lie, a mobility for each sample or none, and a
-// scan for each.
+// scan for each. The parameters and the first identity, which go with it through five functions, are no fields: `peak_on` and `peak_of`
+// take a peak's own identity and no parameters, and peaklines makes a row for `peak_on` alone.
 #[derive(Clone, Copy)]
 pub struct Row<'a, M, S> {
     pub y: &'a [f32],
@@ -137,6 +77,49 @@ pub struct Row<'a, M, S> {
     pub axis: S,
 }
 
+impl<'a, M, S> Row<'a, M, S> {
+    // The peak of an apex that lies so on some axes, which need not be those of the row.
+    pub fn peak_on(&self, on: OnAxes, a: Measured, id: PeakId) -> ImPeak1D
+        requires { (0 < a.index) × (a.index + 1 < length self.now.y.now) × (length self.now.z.now ≡ length self.now.y.now) × (length self.now.y.now ≤ exact_index) }
+        ensures { (mobility : List Float) (axis : List ℕ) → Inside self.now.y.now self.now.z.now axis a → on ≡ on_axes mobility axis a → result ≡ peak_of self.now.place self.now.bounds mobility axis self.now.y.now self.now.z.now a.index id }
+    {
+        let y = self.y;
+        let z = self.z;
+        let i = a.index;
+        let group = self.bounds.window_group;
+        ImPeak1D {
+            tof_row: self.place.tof_row,
+            tof_center: self.place.tof_center,
+            tof_lo: self.place.tof_lo,
+            tof_hi: self.place.tof_hi,
+            rt_lo: self.bounds.rt_lo,
+            rt_hi: self.bounds.rt_hi,
+            frame_id_lo: self.bounds.frame_id_lo,
+            frame_id_hi: self.bounds.frame_id_hi,
+            flags: u32::from(group.is_some()) * ImPeak1D::HAS_GROUP
+                + u32::from(on.mobility.is_some()) * ImPeak1D::HAS_MOBILITY,
+            window_group: group.unwrap_or(0),
+            scan: i as u32,
+            left: a.left,
+            right: a.right,
+            scan_abs: on.scan,
+            left_abs: on.left,
+            right_abs: on.right,
+            scan_sigma: 0.0,
+            mobility: on.mobility.unwrap_or(0.0),
+            apex_smoothed: y[i],
+            apex_raw: z[i],
+            prominence: a.prominence,
+            left_x: a.left_x,
+            right_x: a.right_x,
+            width_scans: a.width,
+            area_raw: a.area,
+            subscan: subscan_of(y, i),
+            id,
+        }
+    }
+}
+
 impl<'a, M: Column<f32>, S: Column<u32>> Row<'a, M, S> {
     // The peak of an apex.
     pub fn peak_of(&self, a: Measured, id: PeakId) -> ImPeak1D
@@ -144,11 +127,12 @@ impl<'a, M: Column<f32>, S: Column<u32>> Row<'a, M, S> {
         ensures { result ≡ peak_of self.now.place self.now.bounds (M.items self.now.mobility) (S.items self.now.axis) self.now.y.now self.now.z.now a.index id }
     {
         let on = on_axes(self.mobility, self.axis, a);
-        peak_on(self.y, self.z, self.place, self.bounds, on, a, id)
+        self.peak_on(on, a, id)
     }
 
     // Writes the records of the n apexes that stand in `found` to the front of `out`, the oldest first. By place: j is the place of the
-    // apex in `found`, that of its record in `out`, and how far its identity lies behind the first.
+    // apex in `found`, that of its record in `out`, and how far its identity lies behind the first. `found` and n are no `Apexes`
+    // as in rtplaces, where six functions take both: here one does, from the search that told them.
     pub fn put_peaks<W: Written>(
         &self,
         found: &[u32],
@@ -180,8 +164,7 @@ pub fn list_peaks(
     out: &mut [u32],
 ) -> usize
     requires { Writable row.now.y.now row.now.z.now row.now.axis.now first (length out.old) × Searchable p row.now.y.now row.now.z.now scratch.old.samples }
-    ensures count { result ≡ length (kept p row.now.y.now row.now.z.now) }
-    ensures front { out.new ≡ row_words row.now.place row.now.bounds row.now.mobility.now row.now.axis.now row.now.y.now row.now.z.now first (kept p row.now.y.now row.now.z.now) ++ drop (result * size) out.old }
+    ensures listed { RecordsPut as_words row.now.place row.now.bounds row.now.mobility.now row.now.axis.now row.now.y.now row.now.z.now first out.old out.new result (kept p row.now.y.now row.now.z.now) }
     ensures samples { scratch.new.samples ≡ scratch.old.samples }
     ensures lists { SameLists scratch.old scratch.new }
 {
@@ -201,8 +184,7 @@ fn list_in<const N: usize, const B: usize>(
 ) -> usize
     requires row { Writable row.now.y.now row.now.z.now row.now.axis.now first (length out.old) × Numbers p row.now.y.now row.now.z.now × (length row.now.y.now ≤ N) }
     requires sizes { Sizes N B }
-    ensures count { result ≡ length (kept p row.now.y.now row.now.z.now) }
-    ensures front { out.new ≡ row_words row.now.place row.now.bounds row.now.mobility.now row.now.axis.now row.now.y.now row.now.z.now first (kept p row.now.y.now row.now.z.now) ++ drop (result * size) out.old }
+    ensures { RecordsPut as_words row.now.place row.now.bounds row.now.mobility.now row.now.axis.now row.now.y.now row.now.z.now first out.old out.new result (kept p row.now.y.now row.now.z.now) }
 {
     let mut lists = Arrays::<N, B>::new();
     list_peaks(row, p, first, &mut lists.lend(N), out)
@@ -216,8 +198,7 @@ pub fn find_im_peaks_row(
     out: &mut [u32],
 ) -> usize
     requires { Writable row.now.y.now row.now.z.now row.now.axis.now first (length out.old) × (all_in_range any_number row.now.y.now ≡ true) × (length row.now.y.now ≤ max_samples) }
-    ensures count { result ≡ length (kept p row.now.y.now row.now.z.now) }
-    ensures front { out.new ≡ row_words row.now.place row.now.bounds row.now.mobility.now row.now.axis.now row.now.y.now row.now.z.now first (kept p row.now.y.now row.now.z.now) ++ drop (result * size) out.old }
+    ensures { RecordsPut as_words row.now.place row.now.bounds row.now.mobility.now row.now.axis.now row.now.y.now row.now.z.now first out.old out.new result (kept p row.now.y.now row.now.z.now) }
 {
     if !rowsearch::inner::reaches_floor(row.z, p.min_prom) {
         return 0;

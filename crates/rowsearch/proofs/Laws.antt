@@ -71,7 +71,7 @@ highest-reaches floor m (v ∷ vs) n = go (lt m v) refl (highest-reaches floor v
     go false e f g = g ∙ no-higher floor m v (some floor vs) e
 
 -- ---- what is measured, in a list
--- it depends on its own words alone
+-- It depends on its own words alone. Record's lemma of that name is the list of 27 other fields.
 own-words : (l m : List ℕ) (a b : ℕ) → ((j : ℕ) → j < found_size → get_or l (a + j) 0 ≡ get_or m (b + j) 0) → measured_from l a ≡ measured_from m b
 unfolding measured_from
 own-words l m a b h =
@@ -277,9 +277,9 @@ kept-of-count p y turns (suc k) = omega (arith, kept-of-count p y turns k, keep-
 pub keeps-later : {y z : List Float} {l : List ℕ} {i : ℕ} {s : Keeping} {ks : List ℕ} (j : ℕ) → i ≤ j → Keeps y z l i s ks → Keeps y z l j s ks
 keeps-later j h k = record { stand = k.stand; count = k.count; newest = k.newest; behind = λ g. let b = k.behind g in omega arith }
 
-pub keeps-none : (y z : List Float) (l : List ℕ) (p : ImDetectParams) (turns : List ℕ) → Keeps y z l (after turns 0) (record { count = 0; last = 0; depth = 0 }) (kept_of p y turns 0)
+pub keeps-none : (y z : List Float) (l : List ℕ) (p : ImDetectParams) (turns : List ℕ) (s : Keeping) → s.count ≡ 0 → Keeps y z l (after turns 0) s (kept_of p y turns 0)
 unfolding kept_of
-keeps-none y z l p turns = record { stand = tt; count = refl; newest = tt; behind = λ h. absurd (omega arith) }
+keeps-none y z l p turns s e = record { stand = tt; count = e; newest = tt; behind = λ h. absurd (omega (arith, e)) }
 
 -- what is kept of all candidates
 kept-of-all : (p : ImDetectParams) (y : List Float) (turns : List ℕ) (m : ℕ) → kept_of p y turns m ≡ keep_all p.min_distance_scans y [] (that_qualify p y (apexes_of turns m))

@@ -1,4 +1,5 @@
--- A scratch that holds the same lists as before.
+-- A scratch that holds the same lists as before. That `samples` is the same is a clause beside it: where a caller lends the scratch as a
+-- part of another one, in expandpeak and above, that clause stands without this one.
 use Rattle.std.specs.Prelude.{◌≡◌}
 use Rattle.rowsearch.specs.declared.scratch.Scratch.{Scratch}
 

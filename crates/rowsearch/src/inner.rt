@@ -1,7 +1,5 @@
 // The search for the kept apexes of a row that the caller has checked.
-ghost use Rattle.std.specs.Prelude.{◌≡◌, true, cond, ◌&&◌, ◌++◌, List, ℕ, ◌≤◌, ◌<◌, ◌+◌, ◌-◌, ◌*◌, T, ltb, length, drop};
-ghost use Rattle.std.specs.Float.{binary32};
-ghost use Rattle.std.specs.Float.Ieee.{fits};
+ghost use Rattle.std.specs.Prelude.{◌≡◌, true, cond, ◌&&◌, ◌++◌, List, ℕ, ◌≤◌, ◌<◌, ◌+◌, ◌-◌, ◌*◌, ltb, length, drop};
 ghost use Rattle.limits.specs.Limits.{exact_index};
 ghost use Rattle.numeric.specs.Arith.{𝟎};
 ghost use Rattle.spans.specs.Memo.{Memo};
@@ -32,7 +30,7 @@ pub struct Measured {
 
 // How many apexes are kept so far, the newest of them, and how many spans the memo has. There is a newest one where the count is not 0;
 // an `Option` of it would say that twice.
-#[derive(Clone, Copy)]
+#[derive(Clone, Copy, Default)]
 pub struct Keeping {
     pub count: usize,
     pub last: usize,
@@ -49,14 +47,6 @@ pub fn reaches_floor(z: &[f32], floor: f32) -> bool
 
 // ---- what is measured, as words
 
-// The pattern of a float, and what is known of every f32.
-fn word_of(x: f32) -> u32
-    ensures word { result ≡ word x }
-    ensures fit { T (fits binary32 x) }
-{
-    numeric::word_of(x)
-}
-
 // Writes the words of an apex to the front of `out`.
 fn put_words(out: &mut [u32], m: Measured)
     requires { (found_size ≤ length out.old) × (m.index ≤ exact_index) }
@@ -68,10 +58,10 @@ fn put_words(out: &mut [u32], m: Measured)
         m.left,
         m.right,
         m.width,
-        word_of(m.prominence),
-        word_of(m.left_x),
-        word_of(m.right_x),
-        word_of(m.area),
+        numeric::inner::kept_word(m.prominence),
+        numeric::inner::kept_word(m.left_x),
+        numeric::inner::kept_word(m.right_x),
+        numeric::inner::kept_word(m.area),
     ]);
 }
 
@@ -85,12 +75,6 @@ fn put_measured(out: &mut [u32], j: usize, m: Measured)
     put_words(&mut out[at..], m);
 }
 
-fn index_of(w: u32) -> usize
-    ensures { result ≡ w }
-{
-    w as usize
-}
-
 // The apex at place j of a list.
 pub fn measured_at(found: &[u32], j: usize) -> Measured
     requires { j * found_size + found_size ≤ length found.now }
@@ -98,7 +82,7 @@ pub fn measured_at(found: &[u32], j: usize) -> Measured
 {
     let at = j * FOUND;
     Measured {
-        index: index_of(found[at]),
+        index: found[at] as usize,
         left: found[at + 1],
         right: found[at + 2],
         width: found[at + 3],
@@ -128,7 +112,8 @@ fn place_for(count: usize, near: bool) -> usize
 }
 
 // Looks at the next apex, at i, whose baseline is known, and keeps it if it qualifies and no newest one is in its way: behind
-// the newest kept one or, if it is near and higher, in its place.
+// the newest kept one or, if it is near and higher, in its place. The rows and what is asked of an apex are no struct: the reason stands at
+// `Look` in spans.
 fn keep_next(
     y: &[f32],
     z: &[f32],
@@ -202,14 +187,10 @@ fn keep_all(
     requires { Searched y.now turns.now bases.old m × (length y.now ≤ exact_index) × (length z.now ≤ exact_index) × (m * found_size ≤ length found.old) }
     ensures { (result ≡ length (kept_of p y.now turns.now m)) × Found y.now z.now found.new (kept_of p y.now turns.now m) }
 {
-    let mut s = Keeping {
-        count: 0,
-        last: 0,
-        depth: 0,
-    };
+    let mut s = Keeping::default();
     // By numbers: the apex k stands at an odd place of `turns`, its baseline at k of `bases`, whose rest is written meanwhile.
     for k in 0..m {
-        let i = index_of(turns[2 * k + 1]);
+        let i = turns[2 * k + 1] as usize;
         let base = numeric::float_of(bases[k]);
         s = keep_next(y, z, base, i, p, s, &mut bases[m..], found);
     }

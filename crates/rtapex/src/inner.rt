@@ -9,7 +9,8 @@ ghost use Rattle.rtapex.specs.Steps.{Inside};
 use rowsearch::inner::Measured;
 use rtrecord::{RtApex, RtLocalPeak};
 
-// A retention trace: smoothed, as it was measured, and the time of each frame.
+// A retention trace: smoothed, as it was measured, and the time of each frame. How long the lists are stands in clauses: the
+// entry of retention fills the struct before it compares them, and each function asks another length.
 #[derive(Clone, Copy)]
 pub struct Trace<'a> {
     pub smoothed: &'a [f32],
@@ -42,15 +43,13 @@ pub fn seconds_of(t: &[f32], n: usize, left_x: f32, right_x: f32) -> Seconds
 }
 
 impl<'a> Trace<'a> {
-    // How far the apex at i lies from its frame. The same two lines as row's `subscan_of`: each is the definition of its own level.
-    #[tactic(auto, unfolding(crate::specs::InTime::subframe), using(numeric::proofs::Patterns::minus_half))]
+    // How far the apex at i lies from its frame, as apex tells it.
+    #[tactic(auto, unfolding(crate::specs::InTime::subframe, apex::specs::Apex::offset_of))]
     pub fn subframe(self, i: usize) -> f32
         requires { (0 < i) × (i + 1 < length self.smoothed.now) }
         ensures { result ≡ subframe self.entry.smoothed.now i }
     {
-        let y = self.smoothed;
-        let offset = numeric::quad_subsample(y[i - 1], y[i], y[i + 1]);
-        numeric::clamp(offset, -0.5, 0.5)
+        apex::inner::offset_of(self.smoothed, i)
     }
 
     // The time at a share of a frame behind frame i.

@@ -17,13 +17,11 @@ fn put(out: &mut [u32], lo: u32, hi: u32, sigma: f32)
     requires { 3 ≤ length out.old }
     ensures { out.new ≡ (lo ∷ hi ∷ to_bits binary32 sigma ∷ []) ++ drop 3 out.old }
 {
-    out[0] = lo;
-    out[1] = hi;
-    out[2] = numeric::word_of(sigma);
+    out[..3].copy_from_slice(&[lo, hi, numeric::word_of(sigma)]);
 }
 
 // Writes the window of a peak, if it has one, to the front of `out` and answers how many it has, or refuses the call and leaves `out` as
-// it is.
+// it is. Frame numbers and times are two lists, as docs/SCOPE.md wants of what stands below `rtctx`.
 fn put_window(
     peak: &[u32],
     ids: &[u32],
@@ -38,13 +36,11 @@ fn put_window(
     if out.len() < 3 {
         return Err(Refusal::Room);
     }
-    match window {
-        Some(w) => {
-            put(out, w.frames.lo as u32, w.frames.hi as u32, w.sigma);
-            Ok(1)
-        }
-        None => Ok(0),
-    }
+    let Some(w) = window else {
+        return Ok(0);
+    };
+    put(out, w.frames.lo as u32, w.frames.hi as u32, w.sigma);
+    Ok(1)
 }
 
 // Writes the window of a peak, the first frame, the last and the bits of sigma, to the front of `out` and answers 64, or answers 0 where

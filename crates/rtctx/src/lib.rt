@@ -1,5 +1,6 @@
 // The two lists by which a run is followed, frame numbers and times, held together. A method takes them apart and calls the function that
-// is handed them one by one.
+// is handed them one by one: docs/SCOPE.md wants both. Index and scale stay two parameters, since a struct of them would be all of a `Run`
+// but for the two lists.
 #![tactic(auto)]
 
 ghost use Rattle.std.specs.Prelude.{◌≡◌, length};

@@ -18,7 +18,7 @@ pub fn threshold(kind: u32, value: f32) -> ThresholdMode
     }
 }
 
-// The parameters of expansion, in the order of their fields, the threshold as two numbers.
+// The parameters of expansion, in the order of their fields, the threshold as two numbers: the C entries are handed them one by one.
 pub fn expand_params(
     bin_pad: u32,
     smooth_sigma_sec: f32,

@@ -8,7 +8,9 @@ ghost use Rattle.rtplace.specs.Placed.{in_run, bounds_in, placed};
 use record::{ImPeak1D, PeakId};
 use rtrecord::{RtApex, RtBounds, RtPeak1D};
 
-// The frame of a trace of n frames at a place without a fraction, which is held to the trace.
+// The frame of a trace of n frames at a place without a fraction, which is held to the trace. rounding's `floor_sample` and `ceil_sample`
+// with a guess of 0 answer the same of the place itself; with them that the frame is one of the trace, which is said once here, would be
+// shown at six places of `bounds_in`.
 fn frame_at(n: usize, x: f32) -> u32
     requires { (0 < n) × (n ≤ exact_index) }
     ensures is { result ≡ sample_at n x }

@@ -34,6 +34,10 @@ AllInside n found m = (p : ℕ) → p < m → Inside n found p
 abbrev pub Below : ℕ → List ℕ → ℕ → Type 0
 Below m l k = (j : ℕ) → j < k → get_or l j 0 < m
 
+-- each place of a list is one of an apex in the list of what was found
+abbrev pub AllFound : List ℕ → List ℕ → Type 0
+AllFound found cs = (j : ℕ) → j < length cs → get_or cs j 0 * found_size + found_size ≤ length found
+
 -- whether an apex is wide enough, in a trace of n frames, by what is measured of it
 unfoldable pub wide : List Float → ℕ → Float → Measured → Bool
 wide t n min_width a = not (lt (seconds_of t n a.left_x a.right_x).width min_width)

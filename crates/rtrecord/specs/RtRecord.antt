@@ -29,10 +29,6 @@ float_of l a j = of_bits binary32 (field_of l a j)
 
 -- ---- identities, the only definitions that know how they are held: the parent's first, then the peak's own
 
--- the words in front of the identities
-abbrev pub ids_place : ℕ
-ids_place = 20
-
 abbrev pub rt_parent_from : List ℕ → ℕ → ℕ
 rt_parent_from l a = field_of l a 20
 
@@ -63,12 +59,14 @@ apex_from l a =
 
 -- ---- a record of the run
 
--- the words of a peak, in order
+-- the words of a peak, in order: those of its apex, and its own behind them
+abbrev pub rt_own_words : RtPeak1D → List ℕ
+rt_own_words p =
+    p.rt_lo ∷ p.rt_hi ∷ p.frame_id_lo ∷ p.frame_id_hi ∷ p.flags ∷ p.window_group
+    ∷ p.tof_row ∷ p.tof_center ∷ p.tof_lo ∷ p.tof_hi ∷ (id_words p.parent_im_id ++ id_words p.id)
+
 abbrev pub rt_words : RtPeak1D → List ℕ
-rt_words p =
-    apex_words p.apex
-    ++ (p.rt_lo ∷ p.rt_hi ∷ p.frame_id_lo ∷ p.frame_id_hi ∷ p.flags ∷ p.window_group
-    ∷ p.tof_row ∷ p.tof_center ∷ p.tof_lo ∷ p.tof_hi ∷ (id_words p.parent_im_id ++ id_words p.id))
+rt_words p = apex_words p.apex ++ rt_own_words p
 
 -- the peak whose words start at a place of a list
 unfoldable pub rt_peak_from : List ℕ → ℕ → RtPeak1D
@@ -104,8 +102,11 @@ with_rt_peak l k p = take (k * rt_size) l ++ (rt_words p ++ drop (k * rt_size + 
 
 -- ---- a record of a trace
 
+abbrev pub local_own_words : RtLocalPeak → List ℕ
+local_own_words p = word p.left_sec ∷ word p.right_sec ∷ word p.width_sec ∷ []
+
 abbrev pub local_words : RtLocalPeak → List ℕ
-local_words p = apex_words p.apex ++ (word p.left_sec ∷ word p.right_sec ∷ word p.width_sec ∷ [])
+local_words p = apex_words p.apex ++ local_own_words p
 
 unfoldable pub local_from : List ℕ → ℕ → RtLocalPeak
 local_from l a =

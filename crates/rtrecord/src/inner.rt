@@ -1,42 +1,29 @@
 // Reading and writing records in lists that the caller has checked. Both kinds of records have the same few functions: a trait over
 // both would have more lines than they have.
-ghost use Rattle.std.specs.Prelude.{◌≡◌, ◌++◌, ◌≤◌, ◌+◌, ◌*◌, length, take, drop};
-ghost use Rattle.std.proofs.lemmas.List.Edits.{sets};
-ghost use Rattle.record.specs.Record.{id_words};
-ghost use Rattle.rtrecord.specs.RtRecord.{apex_size, rt_size, local_size, ids_place, apex_words, rt_words, local_words};
+ghost use Rattle.std.specs.Prelude.{◌≡◌, ◌≤◌, ◌+◌, ◌*◌, length};
+ghost use Rattle.rtrecord.specs.RtRecord.{apex_size, rt_size, local_size, apex_words, rt_own_words, local_own_words};
 ghost use Rattle.rtrecord.specs.RtRecord.{apex_from, rt_parent_at, rt_id_at, rt_peak_from, rt_peak_at, local_from, local_at, with_rt_peak, with_local};
-ghost use Rattle.rtrecord.specs.RtRecord.{group_word, rt_peak_of};
+ghost use Rattle.rtrecord.specs.RtRecord.{rt_peak_of};
 
 use super::{PeakId, RtApex, RtBounds, RtLocalPeak, RtPeak1D};
 use record::ImPeak1D;
 
 // ---- what a retention peak takes over from its mobility peak
 
-// The window group, 0 for a missing one.
-#[tactic(auto, unfolding(crate::specs::RtRecord::group_word))]
-fn group_word(p: ImPeak1D) -> u32
-    ensures { result ≡ group_word p }
-{
-    if p.flags % 2 == ImPeak1D::HAS_GROUP {
-        p.window_group
-    } else {
-        0
-    }
-}
-
 // The retention peak of a mobility peak with this apex, these bounds and this identity.
 #[tactic(auto, unfolding(crate::specs::RtRecord::rt_peak_of))]
 pub fn rt_peak_of(apex: RtApex, b: RtBounds, parent: ImPeak1D, id: PeakId) -> RtPeak1D
     ensures { result ≡ rt_peak_of apex b parent id }
 {
+    let group = parent.group();
     RtPeak1D {
         apex,
         rt_lo: b.rt_lo,
         rt_hi: b.rt_hi,
         frame_id_lo: b.frame_id_lo,
         frame_id_hi: b.frame_id_hi,
-        flags: parent.flags % 2,
-        window_group: group_word(parent),
+        flags: u32::from(group.is_some()) * RtPeak1D::HAS_GROUP,
+        window_group: group.unwrap_or(0),
         tof_row: parent.tof_row,
         tof_center: parent.tof_center,
         tof_lo: parent.tof_lo,
@@ -62,15 +49,6 @@ pub fn rt_id(list: &[u32], k: usize) -> PeakId
     ensures { result ≡ rt_id_at list.now k }
 {
     list[k * RtPeak1D::WORDS + RtPeak1D::ID]
-}
-
-// Writes both into the record at the front of `out`.
-fn put_ids(out: &mut [u32], parent: PeakId, id: PeakId)
-    requires { rt_size ≤ length out.old }
-    ensures { out.new ≡ take ids_place out.old ++ (id_words parent ++ id_words id ++ drop rt_size out.old) }
-{
-    out[RtPeak1D::PARENT_IM_ID] = parent;
-    out[RtPeak1D::ID] = id;
 }
 
 // ---- reading
@@ -154,41 +132,42 @@ pub fn local_at(list: &[u32], k: usize) -> RtLocalPeak
 
 // ---- writing
 
-// Writes an apex to the front of `out`.
-fn put_apex(out: &mut [u32], a: RtApex)
-    requires { apex_size ≤ length out.old }
-    ensures { out.new ≡ sets out.old 0 (apex_words a) }
+// The words of an apex.
+fn apex_words(a: RtApex) -> [u32; RtApex::WORDS]
+    ensures { result ≡ apex_words a }
 {
-    out[RtApex::RT_IDX] = a.rt_idx;
-    out[RtApex::RT_SEC] = numeric::word_of(a.rt_sec);
-    out[RtApex::APEX_SMOOTHED] = numeric::word_of(a.apex_smoothed);
-    out[RtApex::APEX_RAW] = numeric::word_of(a.apex_raw);
-    out[RtApex::PROMINENCE] = numeric::word_of(a.prominence);
-    out[RtApex::LEFT_X] = numeric::word_of(a.left_x);
-    out[RtApex::RIGHT_X] = numeric::word_of(a.right_x);
-    out[RtApex::WIDTH_FRAMES] = a.width_frames;
-    out[RtApex::AREA_RAW] = numeric::word_of(a.area_raw);
-    out[RtApex::SUBFRAME] = numeric::word_of(a.subframe);
+    [
+        a.rt_idx,
+        numeric::word_of(a.rt_sec),
+        numeric::word_of(a.apex_smoothed),
+        numeric::word_of(a.apex_raw),
+        numeric::word_of(a.prominence),
+        numeric::word_of(a.left_x),
+        numeric::word_of(a.right_x),
+        a.width_frames,
+        numeric::word_of(a.area_raw),
+        numeric::word_of(a.subframe),
+    ]
 }
 
-// Writes a retention peak to the front of `out`.
-fn put_rt_words(out: &mut [u32], p: RtPeak1D)
-    requires { rt_size ≤ length out.old }
-    ensures { out.new ≡ rt_words p ++ drop rt_size out.old }
+// The words of a retention peak behind its apex.
+fn rt_own_words(p: RtPeak1D) -> [u32; RtPeak1D::WORDS - RtApex::WORDS]
+    ensures { result ≡ rt_own_words p }
 {
-    let apex = p.apex;
-    put_apex(out, apex);
-    out[RtPeak1D::RT_LO] = p.rt_lo;
-    out[RtPeak1D::RT_HI] = p.rt_hi;
-    out[RtPeak1D::FRAME_ID_LO] = p.frame_id_lo;
-    out[RtPeak1D::FRAME_ID_HI] = p.frame_id_hi;
-    out[RtPeak1D::FLAGS] = p.flags;
-    out[RtPeak1D::WINDOW_GROUP] = p.window_group;
-    out[RtPeak1D::TOF_ROW] = p.tof_row;
-    out[RtPeak1D::TOF_CENTER] = p.tof_center;
-    out[RtPeak1D::TOF_LO] = p.tof_lo;
-    out[RtPeak1D::TOF_HI] = p.tof_hi;
-    put_ids(out, p.parent_im_id, p.id);
+    [
+        p.rt_lo,
+        p.rt_hi,
+        p.frame_id_lo,
+        p.frame_id_hi,
+        p.flags,
+        p.window_group,
+        p.tof_row,
+        p.tof_center,
+        p.tof_lo,
+        p.tof_hi,
+        p.parent_im_id,
+        p.id,
+    ]
 }
 
 // Writes a retention peak to place k of a list.
@@ -197,19 +176,20 @@ pub fn put_rt_peak(out: &mut [u32], k: usize, p: RtPeak1D)
     ensures { out.new ≡ with_rt_peak out.old k p }
 {
     let at = k * RtPeak1D::WORDS;
-    put_rt_words(&mut out[at..], p);
+    let own = at + RtApex::WORDS;
+    out[at..own].copy_from_slice(&apex_words(p.apex));
+    out[own..at + RtPeak1D::WORDS].copy_from_slice(&rt_own_words(p));
 }
 
-// Writes a local peak to the front of `out`.
-fn put_local_words(out: &mut [u32], p: RtLocalPeak)
-    requires { local_size ≤ length out.old }
-    ensures { out.new ≡ local_words p ++ drop local_size out.old }
+// The words of a local peak behind its apex.
+fn local_own_words(p: RtLocalPeak) -> [u32; RtLocalPeak::WORDS - RtApex::WORDS]
+    ensures { result ≡ local_own_words p }
 {
-    let apex = p.apex;
-    put_apex(out, apex);
-    out[RtLocalPeak::LEFT_SEC] = numeric::word_of(p.left_sec);
-    out[RtLocalPeak::RIGHT_SEC] = numeric::word_of(p.right_sec);
-    out[RtLocalPeak::WIDTH_SEC] = numeric::word_of(p.width_sec);
+    [
+        numeric::word_of(p.left_sec),
+        numeric::word_of(p.right_sec),
+        numeric::word_of(p.width_sec),
+    ]
 }
 
 // Writes a local peak to place k of a list.
@@ -218,5 +198,7 @@ pub fn put_local(out: &mut [u32], k: usize, p: RtLocalPeak)
     ensures { out.new ≡ with_local out.old k p }
 {
     let at = k * RtLocalPeak::WORDS;
-    put_local_words(&mut out[at..], p);
+    let own = at + RtApex::WORDS;
+    out[at..own].copy_from_slice(&apex_words(p.apex));
+    out[own..at + RtLocalPeak::WORDS].copy_from_slice(&local_own_words(p));
 }

@@ -1,5 +1,6 @@
 // Steps over a time axis that the caller has checked.
-ghost use Rattle.std.specs.Prelude.{◌≡◌, ◌≤◌, ◌<◌, min, length};
+ghost use Rattle.std.specs.Prelude.{◌≡◌, ◌&&◌, ◌≤◌, ◌<◌, min, length};
+ghost use Rattle.params.specs.Params.{rising};
 ghost use Rattle.limits.specs.Limits.{exact_index};
 ghost use Rattle.rttime.specs.Time.{time_between, time_at, never_falls};
 
@@ -40,15 +41,16 @@ pub fn t_at_index_frac(t: &[f32], x: f32) -> f32
     time_between(t, j, x - numeric::inner::of_index(j))
 }
 
-// Whether no time lies below the one before it: number 7 does not apply to such an axis.
-#[tactic(auto, unfolding(crate::specs::Time::never_falls, crate::specs::Time::never_falls_from))]
+// Whether no time lies below the one before it.
 pub fn never_falls(t: &[f32]) -> bool
     ensures { result ≡ never_falls t.now }
 {
-    let Some((_, rest)) = t.split_first() else {
-        return true;
-    };
-    t.iter()
-        .zip(rest)
-        .fold(true, |all, (&last, &x)| all & !(x < last))
+    params::inner::all_neighbours(t, |last, x| !(x < last))
+}
+
+// Whether the numbers of frames rise and their times do not fall: number 7 does not apply to such axes.
+pub fn rising_axes(ids: &[u32], times: &[f32]) -> bool
+    ensures { result ≡ (rising ids.now && never_falls times.now) }
+{
+    params::inner::is_rising(ids) & never_falls(times)
 }

@@ -136,17 +136,6 @@ module _ (ix : Index) (w : Window) (f n : ℕ) (old : List Float) where
     pub rest : drop (scans_of w) out ≡ drop (scans_of w) old
 
   module _ (first : List Float) (m : ℕ) (e : m ≡ scans_of w) (z : Stepped (λ _ _. 𝟎) m first old) where
-    pub summing_start : Summing 0 old
-    summing_start =
-        let f0 : f + 0 ≡ f = omega arith in
-        let n0 : n - 0 ≡ n = omega arith in
-        record {
-          most = omega arith;
-          size = refl;
-          left = λ k l. rw (f0, n0) (ap (add_frames ix (at_scan w (w.scan_lo + k)) n f) (z.front k (omega arith)));
-          rest = refl;
-        }
-
     pub summing-end : (g : ℕ) (out : List Float) → Summing g out → n ≤ g → scans_of w ≤ length first → out ≡ scan_sums ix w f n ++ drop (scans_of w) first
     unfolding scan_sums
     summing-end g out d h room =

@@ -5,7 +5,7 @@ ghost use Rattle.framesums.specs.Sums.{add_points, at_scan, scan_sums};
 ghost use Rattle.scansums.specs.Steps.{scans_of, Stepped};
 
 use frameindex::CheckedIndex;
-use framesums::inner::{Span, Window};
+use framesums::inner::{FrameRange, Span, Window};
 
 fn clear(n: usize, out: &mut [f32])
     requires { n ≤ length out.old }
@@ -28,14 +28,15 @@ fn deal_points(ix: &CheckedIndex, p: Span, w: Window, out: &mut [f32])
     }
 }
 
-// A sum for each scan of the window, over n frames, by their places in the run: an index has no list of frames.
-pub fn put_scan_sums(ix: &CheckedIndex, from: usize, n: usize, w: Window, out: &mut [f32])
-    requires { (from + n < length ix.now.starts) × (w.scan_lo ≤ w.scan_hi) × (scans_of w ≤ length out.old) }
-    ensures { out.new ≡ scan_sums ix.now w from n ++ drop (scans_of w) out.old }
+// A sum for each scan of the window, over some frames, by their places in the run: an index has no list of frames.
+pub fn put_scan_sums(ix: &CheckedIndex, frames: FrameRange, w: Window, out: &mut [f32])
+    requires { (frames.from + frames.count < length ix.now.starts) × (w.scan_lo ≤ w.scan_hi) × (scans_of w ≤ length out.old) }
+    ensures { out.new ≡ scan_sums ix.now w frames.from frames.count ++ drop (scans_of w) out.old }
 {
     clear((w.scan_hi - w.scan_lo) as usize + 1, out);
+    let from = frames.from;
     prove!(from < ix.starts.len());
-    for f in from..from + n {
+    for f in from..from + frames.count {
         let p = framesums::inner::span_of(ix, f, w);
         deal_points(ix, p, w, out);
     }

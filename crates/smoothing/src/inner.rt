@@ -1,4 +1,5 @@
-// Steps of other crates, for arguments that they have checked.
+// Steps of other crates, for arguments that they have checked. Readings and weights, `src` and `u`, are no struct: of the eight functions
+// that take both no two ask the same of their lengths, so that a struct would have nothing to promise.
 ghost use Rattle.std.specs.Prelude.{◌≡◌, ◌++◌, map, ◌≤◌, ◌<◌, ◌+◌, ◌-◌, ◌*◌, ◌/◌, length, drop};
 ghost use Rattle.numeric.specs.Arith.{◌⊘◌, 𝟎, at};
 ghost use Rattle.limits.specs.Limits.{max_weights};

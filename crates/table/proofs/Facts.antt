@@ -9,7 +9,7 @@ use borrow.Author.Tests.{ltb-true, ltb-false, lt-ltb, le-ltb, le-leb}
 use lib.Dec.{leb, ltb}
 use lib.ListN.{length, get_or, length-append, get_or-append}
 use Rattle.table.specs.Text.{all_digits, value_from, value}
-use Rattle.table.specs.Print.{digit, digits_of, decimal, hex8, followed, places_of, floats_of}
+use Rattle.table.specs.Print.{digit, digits_of, decimal, hex_digit, hex8, followed, places_of, floats_of}
 use Rattle.table.specs.Facts.{DigitsBack, OnlyDigits, NoLeadingZero, LineMost, LongestRow, RoomEnough}
 use Rattle.record.specs.declared.ImPeak1D.{ImPeak1D}
 
@@ -143,3 +143,24 @@ first-digit (suc k) n p h = go (ltb n 10) refl (first-digit k (n / 10))
     go false e r =
         let t : 10 ≤ n = ltb-false n 10 e in
         rw (get_or-append (digits_of (suc k) (n / 10)) (digit (n % 10) ∷ []) 0 0 (digits-least k (n / 10))) (r (omega arith) (tenth (suc k) n h))
+
+-- ---- the digits of a word
+pub hex_places : (d : ℕ) → d < 16 → get_or (48 ∷ 49 ∷ 50 ∷ 51 ∷ 52 ∷ 53 ∷ 54 ∷ 55 ∷ 56 ∷ 57 ∷ 97 ∷ 98 ∷ 99 ∷ 100 ∷ 101 ∷ 102 ∷ []) d 0 ≡ hex_digit d
+unfolding hex_digit
+hex_places zero h = refl
+hex_places (suc zero) h = refl
+hex_places (suc (suc zero)) h = refl
+hex_places (suc (suc (suc zero))) h = refl
+hex_places (suc (suc (suc (suc zero)))) h = refl
+hex_places (suc (suc (suc (suc (suc zero))))) h = refl
+hex_places (suc (suc (suc (suc (suc (suc zero)))))) h = refl
+hex_places (suc (suc (suc (suc (suc (suc (suc zero))))))) h = refl
+hex_places (suc (suc (suc (suc (suc (suc (suc (suc zero)))))))) h = refl
+hex_places (suc (suc (suc (suc (suc (suc (suc (suc (suc zero))))))))) h = refl
+hex_places (suc (suc (suc (suc (suc (suc (suc (suc (suc (suc zero)))))))))) h = refl
+hex_places (suc (suc (suc (suc (suc (suc (suc (suc (suc (suc (suc zero))))))))))) h = refl
+hex_places (suc (suc (suc (suc (suc (suc (suc (suc (suc (suc (suc (suc zero)))))))))))) h = refl
+hex_places (suc (suc (suc (suc (suc (suc (suc (suc (suc (suc (suc (suc (suc zero))))))))))))) h = refl
+hex_places (suc (suc (suc (suc (suc (suc (suc (suc (suc (suc (suc (suc (suc (suc zero)))))))))))))) h = refl
+hex_places (suc (suc (suc (suc (suc (suc (suc (suc (suc (suc (suc (suc (suc (suc (suc zero))))))))))))))) h = refl
+hex_places (suc (suc (suc (suc (suc (suc (suc (suc (suc (suc (suc (suc (suc (suc (suc (suc d)))))))))))))))) h = absurd (omega arith)

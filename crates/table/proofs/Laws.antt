@@ -1,7 +1,11 @@
 -- Laws of lines that are read field by field.
 use Rattle.std.specs.List.{position, position_or_len, position_from, slice_split, onto_first}
 use Rattle.std.proofs.lemmas.List.{map-append, take_rest}
-use Rattle.std.specs.Option.{option_map, unwrap_or, is_some, MatchOption}
+use Rattle.std.specs.Option.{option_map, option_copied, unwrap_or, is_some, MatchOption}
+use Rattle.std.specs.Bool.{then_some}
+use Rattle.std.specs.List.{slice_get}
+use Rattle.std.proofs.lemmas.Option.{slice_get_within, get_or_from_slice_get, slice_get-get_or}
+use Rattle.std.proofs.Common.{Bor}
 use Rattle.std.proofs.lemmas.List.Recursion.{is_position_or_len}
 use Rattle.std.proofs.lemmas.List.Sums.{prefix_len-le-length}
 use Rattle.std.proofs.lemmas.List.Quantifiers.{position-Some}
@@ -34,6 +38,10 @@ use Rattle.numeric.proofs.Lists.{push}
 use Rattle.std.proofs.Math.Bool.{and-false}
 
 -- ---- numbers
+pub some-if : (b : Bool) (n : ℕ) → then_some b n ≡ cond b (Some n) None
+some-if true n = refl
+some-if false n = refl
+
 pub nonzero : (n : ℕ) → (n ≡ 0 → ⊥) → 1 ≤ n
 nonzero zero h = absurd (h refl)
 nonzero (suc n) h = omega arith
@@ -273,6 +281,17 @@ unfolding ends_in_cr
 cr-some [] h = absurd (omega arith)
 cr-some (b ∷ []) h = refl
 cr-some (b ∷ c ∷ l) h = rw (sub-one (suc (suc (length l)))) (ap (λ (k : ℕ). eqb (get_or (c ∷ l) k 0) cr) (sym (sub-one (suc (length l)))) ∙ cr-some (c ∷ l) (omega arith))
+
+pub cr-last : (l : List ℕ) (o : Option (Bor ℕ)) (r : Bool) → option_copied o ≡ slice_get l (length l - 1)
+    → MatchOption o (r ≡ false) (λ x. r ≡ eqb x.now cr) → r ≡ ends_in_cr l
+cr-last [] None r e m = m ∙ cr-none [] refl
+cr-last (b ∷ l) None r e m =
+    let z = e ∙ slice_get-get_or (b ∷ l) (length (b ∷ l) - 1) 0 (omega arith) in
+    let z' : ◌≡◌ {A = ℕ} 0 1 = cc in
+    absurd (omega arith)
+cr-last l (Some x) r e m =
+    let k = slice_get_within l (length l - 1) x.now (sym e) in
+    m ∙ ap (λ (b : ℕ). eqb b cr) (sym (get_or_from_slice_get l (length l - 1) x.now 0 (sym e))) ∙ cr-some l (omega arith)
 
 -- ---- verdicts
 pub next_room : (s : RowsSoFar) (n : ℕ) → is_next s n ≡ true → s.rows ≤ last_row

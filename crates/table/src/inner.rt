@@ -1,4 +1,6 @@
-// Reading and writing in buffers that the caller has sized.
+// Reading and writing in buffers that the caller has sized. In each contract, here and above, `row` is a slice of at least `MAX_FIELDS`
+// places: an array would ask more of a caller whose row is longer, and a struct that holds the list would need a clause as well, that it
+// holds the same list afterwards.
 ghost use Rattle.std.specs.Prelude.{◌≡◌, true, ◌&&◌, ◌++◌, ◌≤◌, ◌<◌, ◌+◌, leb, ltb, length, drop};
 ghost use Rattle.table.specs.Sizes.{max_number, max_fields, put_room};
 ghost use Rattle.table.specs.Text.{fields, is_row, readings, row_text};
@@ -19,6 +21,7 @@ pub fn parse_row(line: &[u8], row: &mut [f32]) -> Option<usize>
     ensures front { is_row line.now ≡ true → row.new ≡ readings line.now ++ drop (length (fields line.now)) row.old }
     ensures rest { drop max_fields row.new ≡ drop max_fields row.old }
 {
+    // The count is the answer and the place of the next reading: a `try_fold` over the fields would have to write the lent row as well.
     let mut count = 0usize;
     for field in line.split(|b| *b == b',') {
         if count == super::MAX_FIELDS {
@@ -78,7 +81,7 @@ pub fn put_refusal(out: &mut [u8]) -> usize
 }
 
 // Writes a number, without leading zeros, at a place of `out`, and says where it ends. The place is a number from call to call: a
-// struct that holds it with the `&mut` would say the same clauses of two fields.
+// struct that holds it with the `&mut` would say the same clauses of two fields. No `write!`, for the reasons beside `put_hex`.
 fn put_decimal(out: &mut [u8], at: usize, n: u32) -> usize
     requires { at + 10 ≤ length out.old }
     ensures value { result ≡ at + length (decimal n) }
@@ -108,14 +111,11 @@ fn hex_digit(d: u32) -> u8
     requires { d < 16 }
     ensures { result ≡ hex_digit d }
 {
-    if d < 10 {
-        b'0' + d as u8
-    } else {
-        b'a' - 10 + d as u8
-    }
+    b"0123456789abcdef"[d as usize]
 }
 
-// Writes the eight digits of a word to the front of `out`: a line for each, as the definition has them.
+// Writes the eight digits of a word to the front of `out`: a line for each, as the definition has them. `write!` would need a writer over
+// the list, and give a Result whose Err cannot be.
 fn put_hex(out: &mut [u8], w: u32)
     requires { 8 ≤ length out.old }
     ensures { out.new ≡ hex8 w ++ drop 8 out.old }

@@ -34,7 +34,8 @@ pub const LINE_ROOM: usize = (MAX_FIELDS - 1) / 2 * LINE_BYTES + PUT_ROOM;
 // ---- what lines are
 
 // What has been accepted behind the heading: the parameters, the count of fields of each row (0 before the first row) and the
-// count of rows.
+// count of rows. No row has 0 fields, and the count is no Option: who prints an accepted row would have to take it out of one that is
+// never `None` there.
 #[derive(Clone, Copy)]
 pub struct RowsSoFar {
     pub params: ImDetectParams,
@@ -63,7 +64,7 @@ fn with_digit(value: u32, b: u8) -> u32
     requires { (value < 10000000) × (48 ≤ b) }
     ensures { result ≡ value * 10 + (b - 48) }
 {
-    value * 10 + (b - b'0') as u32
+    value * 10 + u32::from(b - b'0')
 }
 
 // The place of the first such byte.
@@ -80,7 +81,8 @@ pub fn comma_at(line: &[u8]) -> usize
     place_of(b',', line).unwrap_or(line.len())
 }
 
-// The number of a field of 1 to 8 digits, to a limit.
+// The number of a field of 1 to 8 digits, to a limit. A loop: by `try_fold` the proof does not close, for the library has no lemma from
+// its run to the bytes of a slice, and the closure would have to be told that its value is still below 10,000,000.
 pub fn number(field: &[u8], limit: u32) -> Option<u32>
     ensures { result ≡ number_text limit field.now }
 {
@@ -94,10 +96,7 @@ pub fn number(field: &[u8], limit: u32) -> Option<u32>
         }
         value = with_digit(value, b);
     }
-    if value > limit {
-        return None;
-    }
-    Some(value)
+    (value <= limit).then_some(value)
 }
 
 // The field in front of the first comma of a line, and what stands behind that.
@@ -141,24 +140,20 @@ pub fn next_line(bytes: &[u8], from: usize) -> Option<usize>
 pub fn ends_in_cr(text: &[u8]) -> bool
     ensures { result ≡ ends_in_cr text.now }
 {
-    match text.last() {
-        Some(&b) => b == b'\r',
-        None => false,
-    }
+    text.last().is_some_and(|b| *b == b'\r')
 }
 
 // The verdict on the first line.
 fn opened(p: Option<ImDetectParams>) -> Verdict
     ensures { result ≡ opened p }
 {
-    match p {
-        Some(params) => Verdict::Heading(RowsSoFar {
+    p.map_or(Verdict::Refused, |params| {
+        Verdict::Heading(RowsSoFar {
             params,
             count: 0,
             rows: 0,
-        }),
-        None => Verdict::Refused,
-    }
+        })
+    })
 }
 
 impl RowsSoFar {

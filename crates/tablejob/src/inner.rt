@@ -1,4 +1,5 @@
-// For buffers that the caller has sized: `buf` has room for any line, `row` for its readings, `out` for its text.
+// For buffers that the caller has sized: `buf` has room for any line, `row` for its readings, `out` for its text. They stand apart: each
+// call lends the part of `buf` that is held and the part of `out` behind the text that waits, so a struct of them would be made anew.
 ghost use Rattle.std.specs.Prelude.{◌≡◌, true, false, List, ◌++◌, ℕ, ◌≤◌, ◌<◌, ◌+◌, ◌-◌, length, take, drop};
 ghost use Rattle.table.specs.Sizes.{max_fields, max_line, line_room};
 ghost use Rattle.table.specs.Print.{refusal};

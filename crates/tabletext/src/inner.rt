@@ -1,4 +1,5 @@
-// For buffers that the caller has sized: the room for a line's text is `LINE_ROOM` bytes, that for a row `MAX_FIELDS` readings.
+// For buffers that the caller has sized: the room for a line's text is `LINE_ROOM` bytes, that for a row `MAX_FIELDS` readings. The two
+// stand apart: a line is handed the room behind the text of those before it, so a struct of both would be made anew for each.
 ghost use Rattle.std.specs.Prelude.{◌≡◌, true, Some, List, [], ◌∷◌, ◌++◌, ℕ, ◌≤◌, ◌<◌, ◌+◌, length, take, drop};
 ghost use Rattle.table.specs.declared.Progress.{Progress};
 ghost use Rattle.table.specs.Sizes.{max_fields, max_line, line_room};

@@ -9,13 +9,13 @@ use native.Mathlib.Omega.{arith}
 use borrow.Author.Tests.{ltb-false, eq-eqb, eqb-false}
 use lib.Dec.{ltb, eqb}
 use Rattle.std.specs.List.{fold}
-use lib.Ieee.{Float, nan, inf, fin, binary32, up, down, round, lt, eq, le, is_nan, of_bits, of_int, to_unsigned, to_bits}
+use lib.Ieee.{Float, nan, inf, fin, binary32, up, down, round, lt, eq, le, is_nan, of_bits, of_int, to_unsigned}
 use lib.Ieee.Exact.{HasValue}
 use lib.Ieee.Back.{round_whole}
 use lib.Ieee.Fits.{down_pos}
-use Rattle.limits.specs.Limits.{max_tof_bound, max_bin_place, exact_index}
+use Rattle.limits.specs.Limits.{max_tof_bound, exact_index}
 use Rattle.numeric.specs.Arith.{𝟎, index_f}
-use Rattle.numeric.specs.Numeric.{cast_f, in_range}
+use Rattle.numeric.specs.Numeric.{cast_f}
 use Rattle.refusal.proofs.Bools.{clash, neither}
 use Rattle.tof.specs.declared.TofScale.{TofScale}
 use Rattle.tof.specs.declared.inner.Span.{Span}
@@ -29,13 +29,6 @@ edge-fits s h zero b = let p = plain s h in omega arith
 edge-fits s h (suc i) b = subst (λ (n : ℕ). edge s n ≤ max_tof_bound) (add-one i) (edges-held s h i (omega arith))
 
 -- ---- a place between bins
-
--- a place in range is a number
-pub no_nan : (x : Float) → in_range max_bin_place x ≡ true → is_nan x ≡ false
-unfolding in_range to_bits is_nan
-no_nan nan h = clash false h refl
-no_nan (inf s) h = refl
-no_nan (fin s m e) h = refl
 
 -- a place above 0 and below n is cut to a number below n
 below-whole : (y x : Float) (n : ℕ) → HasValue y false n 1 → n ≤ exact_index → is_nan x ≡ false → le x 𝟎 ≡ false → le y x ≡ false → cast_f x < n

@@ -7,7 +7,8 @@ ghost use Rattle.tof.specs.Tof.{edge, in_scale, bin_of, window_bins, center_f, c
 use super::{CheckedScale, TofScale};
 use params::RowPlace;
 
-// Whether a value of a call's own, which number 4 holds to a range, and its TOF values, which number 5 does, are in range.
+// Whether a value of a call's own, which number 4 holds to a range, and its TOF values, which number 5 does, are in range. A flag for each
+// number, since both may apply.
 #[derive(Clone, Copy)]
 pub struct Further {
     pub value: bool,
@@ -138,7 +139,8 @@ pub fn row_place(s: CheckedScale, i: u32) -> RowPlace
 
 // ---- a scale of TOF values
 
-// The lowest and the highest of some values.
+// The lowest and the highest of some values. Those of no values are the highest number and 0: one test, `lo < hi`, is false of no value and
+// of one distinct value, where an `Option` would take a second one.
 pub fn ends_of(tofs: &[u32]) -> Span
     ensures { result ≡ ends_of tofs.now }
 {

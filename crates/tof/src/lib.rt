@@ -36,10 +36,7 @@ impl TofScale {
         if e.hi > limits::MAX_TOF {
             return Err(Refusal::Axis);
         }
-        if e.lo >= e.hi {
-            return Ok(None);
-        }
-        Ok(Some(inner::scale_of(e.lo, e.hi, tof_step)))
+        Ok((e.lo < e.hi).then(|| inner::scale_of(e.lo, e.hi, tof_step)))
     }
 
     // The scale as one that is checked, or the lowest number that applies to it and to what else a call is handed.
@@ -70,10 +67,7 @@ impl TofScale {
             value: true,
             tofs: tof <= limits::MAX_TOF,
         })?;
-        if inner::in_scale(self, tof) {
-            return Ok(Some(inner::bin_of(s.scale, tof)));
-        }
-        Ok(None)
+        Ok(inner::in_scale(self, tof).then(|| inner::bin_of(s.scale, tof)))
     }
 
     // The first and the last bin of a TOF window.

@@ -9,7 +9,7 @@ ghost use Rattle.traces.specs.Traces.{trace_of, sound_scans, sound_axes, row_ask
 
 use frameindex::numbers::Further;
 use frameindex::{CheckedIndex, FrameIndex};
-use framesums::inner::Window;
+use framesums::inner::{FrameRange, Window};
 use refusal::Refusal;
 use tof::TofScale;
 use windows::inner::{Bounds, PaddedRow};
@@ -86,6 +86,7 @@ pub fn put_trace(ix: &CheckedIndex, w: Window, out: &mut [f32]) -> usize
     ensures sums { out.new ≡ trace_of ix.now w ++ drop (frames ix.now) out.old }
 {
     let n = ix.frames();
-    framesums::inner::put_frame_sums(ix, 0, n, w, out);
+    let all = FrameRange { from: 0, count: n };
+    framesums::inner::put_frame_sums(ix, all, w, out);
     n
 }

@@ -1,13 +1,13 @@
 -- What holds of words in bytes: lengths, places, parts, and that nothing is lost either way.
 use mathlib.Core.Path.{◌≡◌, refl, sym, ap, subst, ◌∙◌}
 use mathlib.Core.Bool.{Bool, true, false}
-use mathlib.Core.List.{List, [], ◌∷◌, ◌++◌, map}
+use mathlib.Core.List.{List, [], ◌∷◌, ◌++◌}
 use Prim.Native.Nat.{ℕ, zero, suc, ◌+◌, ◌*◌, ◌/◌, ◌%◌, ◌^◌, ◌≤◌, ◌<◌}
 use native.Mathlib.Nat.{div-div-eq-div-mul}
 use native.Mathlib.Omega.{arith}
 use borrow.Author.Tests.{ltb-true, ltb-false}
 use lib.Dec.{ltb}
-use lib.ListN.{length, get_or, take, drop, length-append, length-take, length-drop, get_or-append, length-map}
+use lib.ListN.{length, get_or, take, length-append, length-take, get_or-append, length-map}
 use lib.Seq.{get_or_at}
 use lib.Ieee.{nan, binary32, of_bits}
 use Rattle.numeric.specs.Arith.{at}
@@ -93,16 +93,13 @@ pub words-few : (b : List ℕ) → length b < 4 → words_of b ≡ []
 unfolding words_to
 words-few b h = let e : length b / 4 ≡ 0 = omega arith in ap (words_to b) e
 
--- ---- whole words in front, and behind
+-- ---- whole words in front
 
--- from fewer than four bytes nothing is taken, and nothing is left
+-- from fewer than four bytes nothing is taken
 few-take : (b : List ℕ) (k : ℕ) → length b < 4 → words_of (take (suc k * 4) b) ≡ take (suc k) (words_of b)
 few-take b k h = words-few (take (suc k * 4) b) (rw length-take (omega arith)) ∙ sym (ap (take (suc k)) (words-few b h))
 
-few-drop : (b : List ℕ) (k : ℕ) → length b < 4 → words_of (drop (suc k * 4) b) ≡ drop (suc k) (words_of b)
-few-drop b k h = words-few (drop (suc k * 4) b) (rw length-drop (omega arith)) ∙ sym (ap (drop (suc k)) (words-few b h))
-
--- the bytes of the first k words, and the bytes behind them
+-- the bytes of the first k words
 pub words_take : (b : List ℕ) (k : ℕ) → words_of (take (k * 4) b) ≡ take k (words_of b)
 unfolding words_to
 words_take b zero = refl
@@ -113,34 +110,6 @@ words_take (p ∷ q ∷ r ∷ []) (suc k) = few-take (p ∷ q ∷ r ∷ []) k (o
 words_take (p ∷ q ∷ r ∷ s ∷ b) (suc k) =
     ap (λ (n : ℕ). words_of (take n (p ∷ q ∷ r ∷ s ∷ b))) (four-more k) ∙ words-four p q r s (take (k * 4) b)
     ∙ ap (λ (l : List ℕ). word_of p q r s ∷ l) (words_take b k) ∙ sym (ap (take (suc k)) (words-four p q r s b))
-
-pub words-drop : (b : List ℕ) (k : ℕ) → words_of (drop (k * 4) b) ≡ drop k (words_of b)
-words-drop b zero = refl
-words-drop [] (suc k) = few-drop [] k (omega arith)
-words-drop (p ∷ []) (suc k) = few-drop (p ∷ []) k (omega arith)
-words-drop (p ∷ q ∷ []) (suc k) = few-drop (p ∷ q ∷ []) k (omega arith)
-words-drop (p ∷ q ∷ r ∷ []) (suc k) = few-drop (p ∷ q ∷ r ∷ []) k (omega arith)
-words-drop (p ∷ q ∷ r ∷ s ∷ b) (suc k) =
-    ap (λ (n : ℕ). words_of (drop n (p ∷ q ∷ r ∷ s ∷ b))) (four-more k) ∙ words-drop b k ∙ sym (ap (drop (suc k)) (words-four p q r s b))
-
-map-take : {A B : Type 0} (f : A → B) (l : List A) (k : ℕ) → map f (take k l) ≡ take k (map f l)
-map-take f l zero = refl
-map-take f [] (suc k) = refl
-map-take f (a ∷ l) (suc k) = rw (map-take f l k)
-
-map-drop : {A B : Type 0} (f : A → B) (l : List A) (k : ℕ) → map f (drop k l) ≡ drop k (map f l)
-map-drop f l zero = refl
-map-drop f [] (suc k) = refl
-map-drop f (a ∷ l) (suc k) = map-drop f l k
-
--- the same of floats
-pub floats-take : (b : List ℕ) (k : ℕ) → floats_of (take (k * 4) b) ≡ take k (floats_of b)
-unfolding floats_of
-floats-take b k = ap (map (of_bits binary32)) (words_take b k) ∙ map-take (of_bits binary32) (words_of b) k
-
-pub floats-drop : (b : List ℕ) (k : ℕ) → floats_of (drop (k * 4) b) ≡ drop k (floats_of b)
-unfolding floats_of
-floats-drop b k = ap (map (of_bits binary32)) (words-drop b k) ∙ map-drop (of_bits binary32) (words_of b) k
 
 -- ---- there and back
 

@@ -7,7 +7,7 @@ use native.Mathlib.Numerals.{add-one}
 use native.Mathlib.Omega.{arith}
 use borrow.Author.Tests.{le-leb, ltb-true, leb-true}
 use lib.Dec.{T, leb, ltb, lit<}
-use lib.ListN.{length, get_or, take, drop, set}
+use lib.ListN.{length, length-map, get_or, take, drop, set}
 use lib.Seq.{take_all, take-suc, take_at, drop_at, drop-cons, drop-drop, length-take-le, set_at, drop-length, get_or-take, get_or-drop}
 use lib.Ieee.{Float, binary32, of_bits, nan_bits}
 use Rattle.numeric.specs.Arith.{at}
@@ -17,9 +17,10 @@ use Rattle.numeric.proofs.Laws.{no_nan}
 use Rattle.refusal.proofs.Bools.{both}
 use Rattle.params.specs.Params.{all_up_to, rising, rising_from}
 use Rattle.wordbytes.specs.Bytes.{floats_of, bytes_of_word, bytes_of, with_word, word_at, words_to}
-use Rattle.wordbytes.proofs.BytesLaws.{floats-length, bytes-append, bytes-length}
+use Rattle.wordbytes.proofs.BytesLaws.{floats-length, bytes-append, bytes-length, words-length, word-get}
 use Rattle.std.proofs.Math.Bool.{and_assoc, and-true, and-false}
 use native.Mathlib.Nat.{zero-add, add-zero}
+use Rattle.std.proofs.lemmas.List.{get_or-map}
 use Rattle.std.specs.List.{fold, zip}
 use Rattle.std.specs.Simd.{first_chunks}
 
@@ -134,6 +135,13 @@ chunks-from (suc n) j b =
 pub chunk-words : (n : ℕ) (b : List ℕ) → map (λ w. word_at w 0) (first_chunks 4 n b) ≡ words_to b n
 unfolding words_to
 chunk-words n b = rw add-zero at (chunks-from n 0 b)
+
+pub chunk-at : (b : List ℕ) (k : ℕ) → k < length b / 4 → word_at (get_or (first_chunks 4 (length b / 4) b) k []) 0 ≡ word_at b k
+chunk-at b k h =
+    let ws = first_chunks 4 (length b / 4) b in
+    let e = chunk-words (length b / 4) b in
+    let l : length ws ≡ length b / 4 = sym (length-map ws (λ w. word_at w 0)) ∙ ap length e ∙ words-length b (length b / 4) in
+    sym (get_or-map (λ w. word_at w 0) ws k [] 0 (omega arith)) ∙ ap (λ v. get_or v k 0) e ∙ word-get b (length b / 4) k h
 
 pub up-to-fold : (limit : ℕ) (f : List ℕ → ℕ) (ws : List (List ℕ)) (all : Bool)
     → fold (λ (all : Bool) (w : List ℕ). all && leb (f w) limit) all ws ≡ (all && all_up_to limit (map f ws))

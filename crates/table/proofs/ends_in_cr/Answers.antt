@@ -1,10 +1,11 @@
-use Rattle.std.proofs.Common.{arith}
-use Rattle.std.proofs.lemmas.Grind.{common_steps}
-use Rattle.table.proofs.Laws.{cr-none, cr-some}
+use Rattle.std.proofs.Common.{rules, tests, ◌≡◌, false, eqb}
+use Rattle.std.specs.Option.{MatchOption}
+use Rattle.table.specs.Table.{cr}
+use Rattle.table.proofs.Laws.{cr-last}
 use Rattle.table.proofs.ends_in_cr.Goals as goal
 
-pub returns-in-Some : goal.returns-in-Some
-returns-in-Some c = grind (arith, common_steps, cr-some c.args.text.now, c.in-Some.ensures.item)
-
-pub returns-in-None : goal.returns-in-None
-returns-in-None c = grind (arith, common_steps, cr-none c.args.text.now, c.in-None.ensures.item)
+pub returns : goal.returns
+returns c =
+    let r = c.is_some_and.result in
+    let m : MatchOption c.last.result (r ≡ false) (λ x. r ≡ eqb x.now cr) = search (rules, tests) in
+    cr-last c.args.text.now c.last.result r c.last.ensures.value m

@@ -1,6 +1,6 @@
-use borrow.Author.Tests.{eqb-true, eqb-false, leb-true, le-leb, lt-leb}
+use borrow.Author.Tests.{eqb-true, eqb-false, leb-true}
 use Rattle.refusal.proofs.Bools.{both}
-use Rattle.table.proofs.Laws.{nonzero, digits-bound, number-start, number-none, number-long, number-next, number-bad, number-end, digits_more}
+use Rattle.table.proofs.Laws.{nonzero, digits-bound, number-start, number-none, number-long, number-next, number-bad, number-end, digits_more, some-if}
 use Rattle.std.proofs.Common.{sym, ◌∙◌, ◌≤◌, leb, length, get_or, arith, lit<}
 use Rattle.table.proofs.number.Goals as goal
 use Rattle.table.proofs.number.Goals.{then-is_empty-via-then-is_empty, then-is_empty-via-else-is_empty+then-field-gt8}
@@ -41,14 +41,8 @@ loop-b-preserved c =
       number-next c.args.limit c.args.field.now o.value o.b-index o.invariant.1 (omega arith) e,
     )
 
-pub returns-then-value-limit : goal.returns-then-value-limit
-returns-then-value-limit c =
-    let o = c.loop-b in
-    let e = number-end c.args.limit c.args.field.now o.value o.b-index o.invariant.1 (omega arith) in
-    rw (e.0, lt-leb o.value c.args.limit c.if-value-limit.true)
-
 pub returns : goal.returns
 returns c =
     let o = c.loop-b in
     let e = number-end c.args.limit c.args.field.now o.value o.b-index o.invariant.1 (omega arith) in
-    rw (e.0, e.1, le-leb o.value c.args.limit c.if-value-limit.false)
+    rw (c.then_some.ensures, e.0, e.1) (some-if _ _)

@@ -1,28 +1,27 @@
-use Rattle.std.proofs.Common.{◌≡◌, sym, ap, ◌∙◌, arith, ℕ, ◌-◌, ◌+◌}
+use Rattle.std.proofs.Common.{◌≡◌, ◌-◌, ◌/◌, List, ℕ, length, take, drop, sym, ◌∙◌, arith, rules, tests}
+use Rattle.std.specs.Prelude.{Float}
+use Rattle.std.specs.List.{zip}
+use Rattle.std.proofs.lemmas.Iterator.{YieldsList-from_slice, YieldsList-from_zip}
+use Rattle.std.proofs.lemmas.Iterator.Consumers.{fold_from_yields_List}
 use Rattle.frameindex.specs.FrameIndex.{index_of}
-use Rattle.framesums.specs.Sums.{add_points}
-use Rattle.framesums.proofs.Laws.{points-out, points-join}
-use Rattle.framesums.proofs.inner.add_points.Goals.{then-any_of_eight, else-any_of_eight}
+use Rattle.framesums.specs.Steps.{add_each}
+use Rattle.framesums.proofs.Laws.{part_length, points-each, each-out, each-runs}
 use Rattle.framesums.proofs.inner.add_points.Goals as goal
 
-pub loop-j-preserved : goal.loop-j-preserved
-loop-j-preserved c =
-    let w = c.args.w in
-    let j = c.loop-j.j in
-    let to = c.args.p.to in
-    let e : j + 8 - j ≡ 8 = omega arith in
-    record {
-      after = omega arith;
-      before = omega arith;
-      sum = λ starts bins offsets.
-          let ix = index_of starts bins offsets c.args.scans.now c.args.readings.now in
-          c.loop-j.invariant.sum starts bins offsets
-          ∙ points-join ix w j (j + 8) to c.loop-j.sum (omega arith) (omega arith)
-          ∙ ap (add_points ix w (to - (j + 8)) (j + 8)) (elim c.if-any_of_eight.branch [
-            | then-any_of_eight v ↦ sym (v.sum-is ∙ v.add_each-sum.ensures starts bins offsets)
-            | else-any_of_eight v ↦ ap (λ (n : ℕ). add_points ix w n j c.loop-j.sum) e ∙ points-out ix w 8 j c.loop-j.sum (sym c.any_of_eight.ensures ∙ v.if-any_of_eight.false) ∙ sym v.sum-is
-          ]);
-    }
-
 pub returns : goal.returns
-returns c starts bins offsets = c.add_each.ensures starts bins offsets ∙ sym (c.loop-j.invariant.sum starts bins offsets)
+returns c starts bins offsets =
+    let w = c.args.w in
+    let from = c.args.p.from in
+    let n = c.args.p.to - from in
+    let s : List ℕ = take n (drop from c.args.scans.now) in
+    let r : List Float = take n (drop from c.args.readings.now) in
+    let ls : length s ≡ n = part_length from c.args.p.to c.args.scans.now c.requires.0 c.requires.1 in
+    let lr : length r ≡ n = part_length from c.args.p.to c.args.readings.now c.requires.0 (omega (arith, c.requires.1, c.requires.2)) in
+    let k = length s / 8 in
+    let same : length r ≡ length s = lr ∙ sym ls in
+    let runs = fold_from_yields_List _ (λ (sum : Float) (p : List ℕ × List Float). add_each w sum (zip p.0 p.1)) _ _ c.fold-sum.ensures.ran
+    (YieldsList-from_zip (YieldsList-from_slice c.as_chunks.result.0.now cc) (YieldsList-from_slice c.as_chunks-2.result.0.now cc)) (λ sum p b q m. search (rules, tests, each-out)) in
+    c.add_each.ensures
+    ∙ rw (runs, c.as_chunks.ensures.front, c.as_chunks-2.ensures.front, c.as_chunks.ensures.back, c.as_chunks-2.ensures.back, same)
+    (each-runs w 8 k s r c.args.so)
+    ∙ sym (points-each (index_of starts bins offsets c.args.scans.now c.args.readings.now) w n from c.args.so (omega (arith, c.requires.0, c.requires.1)) (omega (arith, c.requires.0, c.requires.1, c.requires.2)))

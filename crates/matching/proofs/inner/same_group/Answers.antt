@@ -28,5 +28,5 @@ returns-then-a-b c = let same = both (eqb c.args.a.flags c.args.b.flags) c.if-a-
     same-words c.args.p c.args.a c.args.b (eqb-true _ _ same.0) (eqb-true _ _ same.1)
 
 pub returns : goal.returns
-unfolding same_group
-returns c = rw (c.eq.ensures, c.group_of.ensures, c.group_of-2.ensures)
+unfolding same_group group_of
+returns c = rw (c.eq.ensures, c.group.ensures, c.group-2.ensures)

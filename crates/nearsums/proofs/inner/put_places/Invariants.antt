@@ -3,4 +3,4 @@ use Rattle.nearsums.specs.Steps.{FirstIn}
 use Rattle.nearsums.proofs.inner.put_places.Given as goal
 
 abbrev pub invariant-loop-k : goal.invariant-loop-k
-invariant-loop-k l = (k : ℕ) → k < l.k → FirstIn l.ix (l.from + k) l.x (get_or l.place-items k 0)
+invariant-loop-k l = (k : ℕ) → k < l.k → FirstIn l.ix (l.fn.frames.from + k) l.x (get_or l.place-items k 0)

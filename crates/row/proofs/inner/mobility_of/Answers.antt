@@ -1,7 +1,12 @@
-use Rattle.std.proofs.Common.{ap, ◌∙◌, arith, Some}
+use Rattle.std.proofs.Common.{◌∙◌, arith}
+use mathlib.Core.Logic.{inl, inr}
 use Rattle.numeric.specs.Arith.{𝟎}
-use Rattle.row.proofs.Laws.{mobility-in}
+use Rattle.row.proofs.Laws.{mobility-here}
+use Rattle.row.proofs.inner.mobility_of.Goals.{then-i-count, else-i-count}
 use Rattle.row.proofs.inner.mobility_of.Goals as goal
 
-pub returns-then-i-count : goal.returns-then-i-count
-returns-then-i-count g c = ap Some (c.item.ensures 𝟎) ∙ mobility-in (g.M.Column.items c.args.mobility) c.args.i (omega arith)
+pub returns : goal.returns
+returns g c = c.then_some.ensures ∙ mobility-here (g.M.Column.items c.args.mobility) c.args.i _ _ c.count-count.ensures (elim c.if-i-count.branch [
+  | then-i-count w ↦ inl (omega arith, w.here-is ∙ w.item-here.ensures 𝟎)
+  | else-i-count w ↦ inr (omega arith, w.here-is)
+])

@@ -1,8 +1,11 @@
+use mathlib.Core.Path.{refl, ◌∙◌}
 use Prim.Native.Nat.{◌*◌}
-use Rattle.record.proofs.Laws.{put-part}
-use Rattle.rtrecord.specs.RtRecord.{rt_size, rt_words, with_rt_peak}
+use Rattle.record.proofs.Laws.{put-two}
+use Rattle.rtrecord.specs.RtRecord.{apex_size, rt_size, apex_words, rt_own_words, with_rt_peak}
 use Rattle.rtrecord.proofs.inner.put_rt_peak.Goals as goal
 
 pub returns : goal.returns
 unfolding with_rt_peak
-returns c = put-part c.args.out.now (rt_words c.args.p) c.put_rt_words.new.out (c.args.k * rt_size) rt_size c.put_rt_words.ensures
+returns c = let p = c.args.p in
+    put-two c.args.out.now (apex_words p.apex) (rt_own_words p) c.copy_from_slice.new.self c.copy_from_slice-2.new.self (c.args.k * rt_size) apex_size 12 c.requires refl
+    (c.copy_from_slice.ensures.after ∙ c.apex_words.ensures) (c.copy_from_slice-2.ensures.after ∙ c.rt_own_words.ensures)

@@ -13,14 +13,14 @@ returns-then-not-reaches_floor c = let a = c.args.asked in
       lists = (refl, refl, refl);
     }
 
-pub returns-then-m-eq0 : goal.returns-then-m-eq0
-returns-then-m-eq0 c = let a = c.args.asked in
+pub returns-then-count-eq0 : goal.returns-then-count-eq0
+returns-then-count-eq0 c = let a = c.args.asked in
     let t = c.args.trace in
-    let found = c.find_apexes-m.new.s.found.now in
-    let r = c.find_apexes-m in
+    let found = c.find_apexes-count.new.s.found.now in
+    let r = c.find_apexes-count in
     record {
       found = none_found a.floor a.sep a.min_width t.smoothed.now t.raw.now t.times.now found c.args.order.now
-          (few-none a.floor t.smoothed.now t.raw.now found r.result r.ensures.done c.if-m-eq0.true);
+          (few-none a.floor t.smoothed.now t.raw.now found r.result r.ensures.done c.if-count-eq0.true);
       samples = r.ensures.samples;
       lists = r.ensures.lists;
     }
@@ -30,7 +30,7 @@ list_apexes-requires c = let a = c.args.asked in
     let t = c.args.trace in
     let y = t.smoothed.now in
     let plain = all_plain 0x7f80_0000 y (omega arith) c.requires.numbers c.all_fit.ensures in
-    let r = c.find_apexes-m in
+    let r = c.find_apexes-count in
     let s = r.new.s in
     let room = s.room in
     let long = c.requires.room in
@@ -51,7 +51,7 @@ list_apexes-requires c = let a = c.args.asked in
       };
       apexes = (
         (λ p h. (all-stand a.floor a.sep a.min_width y t.raw.now t.times.now s.found.now r.result r.ensures.done plain p h).inside),
-        (let ne = c.if-m-eq0.false in omega arith),
+        (let ne = c.if-count-eq0.false in omega arith),
         few a.floor a.sep a.min_width y t.raw.now t.times.now s.found.now r.result r.ensures.done plain,
       );
     }
@@ -61,7 +61,7 @@ returns c = let a = c.args.asked in
     let t = c.args.trace in
     let y = t.smoothed.now in
     let plain = all_plain 0x7f80_0000 y (omega arith) c.requires.numbers c.all_fit.ensures in
-    let r = c.find_apexes-m in
+    let r = c.find_apexes-count in
     let found = r.new.s.found.now in
     let l = c.list_apexes in
     let most = few a.floor a.sep a.min_width y t.raw.now t.times.now found r.result r.ensures.done plain in
@@ -69,5 +69,5 @@ returns c = let a = c.args.asked in
       found = rt-found a.floor a.sep a.min_width y t.raw.now t.times.now found r.result r.ensures.done plain l.new.order l.result
           l.ensures.count l.ensures.front (omega (arith, most, c.requires.order-long, l.auto.order));
       samples = r.ensures.samples;
-      lists = c.find_apexes-m.ensures.lists;
+      lists = c.find_apexes-count.ensures.lists;
     }

@@ -13,10 +13,10 @@ pub choose_places-c-requires : goal.choose_places-c-requires
 choose_places-c-requires c = let s = c.args in
     let y = s.trace.smoothed.now in
     let t = s.trace.times.now in
-    let m = s.m in
+    let m = s.apexes.count in
     let ready = c.requires.ready in
     let room = c.requires.room in
-    let test = wide_at s.found.now t (length y) s.asked.min_width in
+    let test = wide_at s.apexes.found.now t (length y) s.asked.min_width in
     let ws = passing test (up_to m) in
     let w = c.keep_wide-k in
     let few = some-few test m in
@@ -39,19 +39,19 @@ pub list_places-requires : goal.list_places-requires
 list_places-requires c = let s = c.args in
     let y = s.trace.smoothed.now in
     let t = s.trace.times.now in
-    let m = s.m in
+    let m = s.apexes.count in
     let ready = c.requires.ready in
     let room = c.requires.room in
-    let test = wide_at s.found.now t (length y) s.asked.min_width in
+    let test = wide_at s.apexes.found.now t (length y) s.asked.min_width in
     let ws = passing test (up_to m) in
     let w = c.keep_wide-k in
     let front = filled-front ws s.order.now w.new.out w.result w.ensures.count w.ensures.front in
     let r = c.choose_places-c in
-    let cs = chosen_places s.asked.sep y t s.found.now ws in
-    let chosen-front = r.ensures.front ∙ ap (chosen_places s.asked.sep y t s.found.now) front in
+    let cs = chosen_places s.asked.sep y t s.apexes.found.now ws in
+    let chosen-front = r.ensures.front ∙ ap (chosen_places s.asked.sep y t s.apexes.found.now) front in
     let few = some-few test m in
-    let chosen_few = chosen-places-few s.asked.sep y t s.found.now ws in
-    let below = chosen-places (λ q. q < m) s.asked.sep y t s.found.now ws (some_below test m) in
+    let chosen_few = chosen-places-few s.asked.sep y t s.apexes.found.now ws in
+    let below = chosen-places (λ q. q < m) s.asked.sep y t s.apexes.found.now ws (some_below test m) in
     let most = c.requires.apexes.2 in
     rw chosen-front (
       omega (arith, ready.raw, c.requires.apexes.1, most),
@@ -66,8 +66,8 @@ returns c = let s = c.args in
     let y = s.trace.smoothed.now in
     let t = s.trace.times.now in
     let z = s.trace.raw.now in
-    let found = s.found.now in
-    let m = s.m in
+    let found = s.apexes.found.now in
+    let m = s.apexes.count in
     let test = wide_at found t (length y) s.asked.min_width in
     let ws = passing test (up_to m) in
     let w = c.keep_wide-k in

@@ -22,9 +22,9 @@ returns c = let args = c.args in
     let e : after ≡ take a memo ++ (R ++ drop (a + 9) memo) = rw (nine, c.copy_from_slice.ensures.after) (ap (λ x. take a memo ++ (R ++ x)) (drop-drop 9 a memo)) in
     let w : (j : ℕ) → j < 9 → get_or after (a + j) 0 ≡ get_or R j 0 = word-new memo R (drop (a + 9) memo) after a l e in
     record {
-      height = rw (w 0 (omega arith)) c.kept_word-height.ensures;
+      height = rw (w 0 (omega arith)) c.kept_word-height.ensures.tells;
       left = w 1 (omega arith);
       right = w 2 (omega arith);
-      span = simp (w 3 (omega arith), w 4 (omega arith), w 5 (omega arith), w 6 (omega arith), w 7 (omega arith), w 8 (omega arith), c.kept_word-left_x.ensures, c.kept_word-right_x.ensures, c.kept_word-area.ensures);
+      span = simp (w 3 (omega arith), w 4 (omega arith), w 5 (omega arith), w 6 (omega arith), w 7 (omega arith), w 8 (omega arith), c.kept_word-left_x.ensures.tells, c.kept_word-right_x.ensures.tells, c.kept_word-area.ensures.tells);
       others = word-old memo R (drop (a + 9) memo) after a l e;
     }

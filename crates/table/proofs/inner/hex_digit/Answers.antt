@@ -1,11 +1,5 @@
-use borrow.Author.Tests.{lt-ltb, le-ltb}
-use Rattle.table.specs.Print.{hex_digit}
+use Rattle.table.proofs.Facts.{hex_places}
 use Rattle.table.proofs.inner.hex_digit.Goals as goal
 
-pub returns-then-d-lt10 : goal.returns-then-d-lt10
-unfolding hex_digit
-returns-then-d-lt10 c = rw (lt-ltb _ _ c.if-d-lt10.true)
-
-pub returns-else-d-lt10 : goal.returns-else-d-lt10
-unfolding hex_digit
-returns-else-d-lt10 c = rw (le-ltb _ _ c.if-d-lt10.false)
+pub returns : goal.returns
+returns c = hex_places c.args.d c.requires

@@ -1,5 +1,5 @@
-use Rattle.std.proofs.Common.{arith, sym, ◌∙◌}
-use borrow.Author.Tests.{lt-ltb, le-ltb, le-leb, lt-leb}
+use Rattle.std.proofs.Common.{rules, sym, ◌∙◌}
+use borrow.Author.Tests.{le-ltb, le-leb, lt-leb}
 use Rattle.refusal.specs.Refusal.{first_of}
 use Rattle.limits.specs.Limits.{max_tof}
 use Rattle.tof.specs.TofAnswers.{build_answer, build_number}
@@ -17,22 +17,10 @@ returns-then-e-gt-MAX_TOF c =
       lt-leb _ _ (rw c.ends_of-e.ensures at c.if-e-gt-MAX_TOF.true),
     )
 
-pub returns-then-e : goal.returns-then-e
-unfolding build_answer build_number first_of
-returns-then-e c =
-    rw (
-      le-ltb _ _ c.if-tofs-gt-MAX_POINTS.false,
-      ← c.sound_step.ensures,
-      c.if-not-sound_step.false,
-      up-to-highest max_tof c.args.tofs.now,
-      le-leb _ _ (rw c.ends_of-e.ensures at c.if-e-gt-MAX_TOF.false),
-      le-ltb _ _ (rw c.ends_of-e.ensures at c.if-e.true),
-    )
-
-pub scale_of-requires : goal.scale_of-requires
-scale_of-requires c = let l = c.if-e.false in
-    let u = c.if-e-gt-MAX_TOF.false in
-    (step-above _ (sym c.sound_step.ensures ∙ c.if-not-sound_step.false), omega arith, omega arith)
+pub then-requires : goal.then-requires
+then-requires c less = let u = c.if-e-gt-MAX_TOF.false in
+    let low = step-above _ (sym c.sound_step.ensures ∙ c.if-not-sound_step.false) in
+    search (rules, low, u, less)
 
 pub returns : goal.returns
 unfolding build_answer build_number first_of
@@ -43,7 +31,4 @@ returns c =
       c.if-not-sound_step.false,
       up-to-highest max_tof c.args.tofs.now,
       le-leb _ _ (rw c.ends_of-e.ensures at c.if-e-gt-MAX_TOF.false),
-      lt-ltb _ _ (rw c.ends_of-e.ensures at c.if-e.false),
-      c.scale_of.ensures,
-      c.ends_of-e.ensures,
-    )
+    ) (let e = sym c.ends_of-e.ensures in search (rules, e))

@@ -1,7 +1,9 @@
 use Rattle.tof.specs.Tof.{center_at_f, last_bin}
 use Rattle.numeric.specs.Numeric.{cast_f}
 use Rattle.tof.proofs.TofLaws.{bins-held}
-use Rattle.tof.proofs.Laws.{no_nan, below_last}
+use Rattle.limits.specs.Limits.{max_bin_place}
+use Rattle.numeric.proofs.Patterns.{no_nan, wider}
+use Rattle.tof.proofs.Laws.{below_last}
 use Prim.Native.Nat.{◌<◌}
 use native.Mathlib.Omega.{arith}
 use Rattle.tof.proofs.inner.center_between.Goals.{Else-mu-of_u32}
@@ -10,7 +12,7 @@ use Rattle.tof.proofs.inner.center_between.Goals as goal
 -- between the first bin and the last one
 inside : (c : Else-mu-of_u32) → cast_f c.args.mu < last_bin c.args.s.scale
 inside c = let n = bins-held c.args.s.scale c.args.s.sound in
-    below_last (last_bin c.args.s.scale) c.args.mu (omega arith) (no_nan c.args.mu c.requires) c.if-mu.false (rw c.of_u32.ensures at c.if-mu-of_u32.false)
+    below_last (last_bin c.args.s.scale) c.args.mu (omega arith) (no_nan c.args.mu (wider max_bin_place c.args.mu (omega arith) c.requires)) c.if-mu.false (rw c.of_u32.ensures at c.if-mu-of_u32.false)
 
 pub center_of-requires : goal.center_of-requires
 center_of-requires c = (bins-held c.args.s.scale c.args.s.sound).0

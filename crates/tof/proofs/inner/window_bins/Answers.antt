@@ -29,4 +29,4 @@ bin_of-requires-2 c = let p = plain c.args.s.scale c.args.s.sound in
 pub returns : goal.returns
 unfolding window_bins
 returns c = rw (← c.min-lo.ensures, ← c.max-hi.ensures, lt-leb _ _ c.if-hi-s.false, lt-leb _ _ c.if-lo-s.false)
-    (simp (c.bin_of-2.ensures, c.min.ensures, c.bin_of.ensures, c.max.ensures))
+    (cc)

@@ -1,11 +1,16 @@
-use Rattle.apex.proofs.Laws.{right-on, right-stop}
-use mathlib.Core.Path.{sym, ◌∙◌}
-use native.Mathlib.Omega.{arith}
+use Rattle.std.proofs.Common.{rules, ◌≡◌, refl, ℕ, Option, Some, None, ◌+◌, ◌∙◌}
+use Rattle.apex.specs.Apex.{right_foot}
+use Rattle.apex.proofs.Laws.{right-found, right-none}
 use Rattle.apex.proofs.inner.Level.right_foot.Goals as goal
 
-pub loop-w-preserved : goal.loop-w-preserved
-loop-w-preserved c = let args = c.args.self in
-    (omega arith, c.loop-w.invariant.1 ∙ right-on args.y.now args.h c.loop-w.w (omega arith) c.if-y-w.true)
-
-pub returns-else-y-w : goal.returns-else-y-w
-returns-else-y-w c = sym (c.loop-w.invariant.1 ∙ right-stop c.args.self.y.now c.args.self.h c.loop-w.w (omega arith) c.if-y-w.false)
+pub returns : goal.returns
+returns c = go c.position.result refl
+  where
+    go : (o : Option ℕ) → c.position.result ≡ o → c.map_or.result ≡ right_foot c.args.self.y.now c.args.self.h c.args.self.i
+    go (Some n) e = let s = c.args.self in
+        let is : c.map_or.result ≡ s.i + n = search (rules, rw e at c.map_or.ensures) in
+        let p = rw e at c.position.ensures in
+        is ∙ right-found s.y.now c.iter.result.rest.now s.h s.i s.inside c.iter.ensures.rest n (search (rules, p)) (search (rules, p)) (search (rules, p))
+    go None e = let s = c.args.self in
+        let p = rw e at c.position.ensures in
+        (rw e at c.map_or.ensures) ∙ right-none s.y.now c.iter.result.rest.now s.h s.i s.inside c.iter.ensures.rest (search (rules, p))

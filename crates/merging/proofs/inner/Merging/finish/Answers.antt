@@ -1,23 +1,23 @@
+use Rattle.record.proofs.Missing.{some_then, unwrap_then}
 use Rattle.merging.specs.Merging.{merged}
-use Rattle.merging.specs.Walk.{sums_of, bounds_of, heights_of, state_of}
-use Rattle.merging.proofs.Laws.{divided, some_then, unwrap_then, first-none}
+use Rattle.merging.specs.Walk.{sums_of, bounds_of, heights_of, sigma_of, state_of}
+use Rattle.merging.proofs.Laws.{divided, first-none}
 use Rattle.merging.proofs.inner.Merging.finish.Goals as goal
 
 pub returns : goal.returns
-unfolding merged state_of sums_of bounds_of heights_of
+unfolding merged state_of sums_of bounds_of heights_of sigma_of
 returns c = λ ps h.
     simp (
-      c.choose-divisor.ensures,
+      c.divisor_of-divisor.ensures,
       c.whole_mean.ensures,
       c.whole_mean-2.ensures,
-      c.flags_of.ensures,
-      c.is_some.ensures,
-      c.is_some-2.ensures,
+      c.flags.ensures,
       c.unwrap_or.ensures,
       c.unwrap_or-2.ensures,
       c.whole_mean-3.ensures,
       c.whole_mean-4.ensures,
-      c.choose.ensures,
+      c.mean.ensures,
+      c.unwrap_or-3.ensures,
       c.of_u32.ensures,
       c.of_u32-2.ensures,
       c.width_of.ensures,

@@ -3,7 +3,7 @@ use mathlib.Core.List.{[], ◌∷◌, ◌++◌}
 use Rattle.merging.specs.Merging.{group_word, one_group}
 use Rattle.merging.specs.Walk.{state_of}
 use Rattle.peaklist.proofs.Extremes.{extreme-join}
-use Rattle.merging.proofs.Laws.{any-join, all_join, first-join, sum-having, any-having, first-having, or_then}
+use Rattle.merging.proofs.Laws.{any-join, all_join, first-join, any-having, first-having, or_then}
 use Rattle.merging.proofs.inner.Merging.join.Goals as goal
 
 pub returns : goal.returns
@@ -17,18 +17,15 @@ returns c = λ ps h.
         c.join.ensures ps (ap (λ m. m.sums) h.state),
         c.join-2.ensures ps h.some (ap (λ m. m.bounds) h.state),
         c.join-3.ensures ps (ap (λ m. m.heights) h.state),
-        c.weight_of-weight.ensures,
-        c.choose.ensures,
-        c.choose-2.ensures,
+        c.join-4.ensures ps (ap (λ m. m.sigma) h.state),
         c.or.ensures,
-        c.mobility_of.ensures,
+        c.mobility.ensures,
         c.of_group_too.ensures (one_group ps) (group_word ps) (ap (λ m. m.group) h.state),
         or_then,
         c.min.ensures,
         h.state,
         h.some,
         group,
-        sum-having,
         any-having,
         first-having,
         all_join,
