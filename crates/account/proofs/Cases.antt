@@ -65,13 +65,13 @@ unfolding searched
 listed-are = rw (smooth-is, case.run-raw, case.run-floor) case.run-listed
 
 ordinary : Ordinary run params weights p 0 8
-ordinary = record { window = case.run-window; long = rw case.run-raw case.run_long; some = rw listed-are (omega arith) }
+ordinary = record { window = case.run-window; long = omega arith; some = rw listed-are (omega arith) }
 
 on-path : OrdinaryPath run params weights p 0 8
 on-path =
     record {
       window = case.run-window;
-      long = rw case.run-raw case.run_long;
+      long = omega arith;
       apex = 5;
       chosen = rw chosen-are (at-index (5 ∷ 1 ∷ []) 0 (omega arith));
       shares = rw (chosen-are, smooth-is, case.run-raw) case.run-share-best;

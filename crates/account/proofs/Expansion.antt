@@ -40,7 +40,7 @@ places-differ (i ∷ l) j zero d h m = absurd (omega arith)
 places-differ (i ∷ l) zero (suc k) d h m = d.0 (get_or l k 0) (at-index l k (omega arith))
 places-differ (i ∷ l) (suc j) (suc k) d h m = places-differ l j k d.1 (omega arith) (omega arith)
 
-module _ (run : Run) (e : RtExpandParams) (ws : List Float) (p : ImPeak1D) (from count : ℕ) (out : List ℕ) where
+module _ (run : Run) (e : RtExpandParams) (ws : List Float) (p : ImPeak1D) (first from count : ℕ) (out : List ℕ) where
   retention : (lo hi : ℕ) → ExpandAccounted run e ws p lo hi from count out → RetentionAccounted run e ws p lo hi from count out
   unfolding searched
   retention lo hi a =
@@ -76,23 +76,35 @@ module _ (run : Run) (e : RtExpandParams) (ws : List Float) (p : ImPeak1D) (from
       let a = rt-account (floor_of e y) e.min_sep_sec e.min_width_sec y (raw_over run e p lo hi) (times_over run lo hi) in
       let s = index_of (listed_over run e ws p lo hi) o.apex ((a.listed-are o.apex).1 (o.chosen, o.shares)) in
       let low = s.low in
-      record { window = o.window; long = o.long; some = omega arith }
+      record { window = o.window; long = omega (arith, o.long); some = omega arith }
 
-  expansion : PeakAccounted run e ws p from count out → ExpansionAccounted run e ws p from count out
+  -- and a listed one is such an apex
+  path-of : (lo hi : ℕ) → Ordinary run e ws p lo hi → OrdinaryPath run e ws p lo hi
+  unfolding searched
+  path-of lo hi o =
+      let y = smooth_over run e ws p lo hi in
+      let listed = listed_over run e ws p lo hi in
+      let a = rt-account (floor_of e y) e.min_sep_sec e.min_width_sec y (raw_over run e p lo hi) (times_over run lo hi) in
+      let l = (a.listed-are (get_or listed 0 0)).0 (at-index listed 0 o.some) in
+      record { window = o.window; long = omega (arith, o.long); apex = get_or listed 0 0; chosen = l.0; shares = l.1 }
+
+  expansion : PeakAccounted run e ws p first from count out → ExpansionAccounted run e ws p from count out
   expansion a =
       record {
         records = a.records;
         inside = λ lo hi w k h. within lo hi _ (a.window lo hi w k h).inside;
         ordinary = λ lo hi o. retention lo hi (a.ordinary lo hi (listed-one lo hi o));
+        fallback = λ lo hi w other. a.fallback lo hi w (λ o. other (path-of lo hi o));
+        none-above = a.none-above;
       }
 
 pub one-expanded : OneExpanded
-one-expanded run e peak ws first was is count a = expansion run e ws _ 0 count is.out (one-accounted run e peak ws first was is count a)
+one-expanded run e peak ws first was is count a = expansion run e ws _ first 0 count is.out (one-accounted run e peak ws first was is count a)
 
 pub many-expanded : ManyExpanded
 many-expanded m was is counts₀ counts total a =
     let b = many-accounted m was is counts₀ counts total a in
-    record { each = λ q h. expansion m.run m.params _ _ _ _ is.out (b.each q h); all = b.all }
+    record { each = λ q h. expansion m.run m.params _ _ _ _ _ is.out (b.each q h); all = b.all }
 
 -- ---- the C functions: a word that is a multiple of 64 tells a count
 

@@ -43,8 +43,7 @@ use Rattle.chosen.specs.Times.{near_in_time}
 use Rattle.rtapex.specs.InTime.{subframe, apex_time, seconds_of, apex_area}
 use Rattle.rtplaces.specs.Shares.{total_area, largest, trace_area, best_area, meets_shares}
 use Rattle.rtsearch.specs.Retention.{is_wide, rt_qualifying, higher_first, earlier_first, chosen_apexes, has_shares, listed_apexes}
-use Rattle.expandtrace.specs.declared.inner.Way.TheVariants.{Smoothed}
-use Rattle.expandtrace.specs.Trace.{trace_over, any_above, way_of}
+use Rattle.expandtrace.specs.Trace.{trace_over}
 use Rattle.expandpeak.specs.Expanded.{Run, run_of, window_in, floor_of}
 use Rattle.expandnumbers.specs.ExpandNumber.{sum_of, all_weights, sound_values, rising_axes, enough_room}
 use Rattle.expand.specs.ExpandCall.{Lent, lent_of, many_asks, one_number}
@@ -92,7 +91,7 @@ run =
     (map index_f (0 ∷ 1 ∷ 2 ∷ 3 ∷ 4 ∷ 5 ∷ 6 ∷ 7 ∷ 8 ∷ []))
     (record { tof_min = 0; tof_max = 0; tof_step = 1; num_bins = 1 })
 
--- a least separation of 3 seconds, a fixed threshold of 1
+-- a least separation of 3 seconds, a fixed threshold of 1; a window of nine frames is just long enough
 abbrev pub params : RtExpandParams
 params =
     record {
@@ -101,7 +100,7 @@ params =
       min_prom = Fixed 𝟏;
       min_sep_sec = index_f 3;
       min_width_sec = 𝟎;
-      fallback_if_frames_lt = 3;
+      fallback_if_frames_lt = 9;
       fallback_frac_width = 𝟏;
       rt_pad_frames = 4;
     }
@@ -143,14 +142,10 @@ one-weight = refl
 pub run-smooth : smooth_over run params weights p 0 8 ≡ trace
 run-smooth = rw run-raw one-weight
 
--- the noise is 0, and the window long enough
+-- the noise is 0
 pub run-floor : floor_of params trace ≡ 𝟏
 unfolding effective_f noise_f middle rank_f ranked first_at counted abs_f add sub mul neg lt of_int of_bits to_bits
 run-floor = refl
-
-pub run_long : Smoothed ≡ way_of trace 3
-unfolding way_of any_above lt of_int of_bits
-run_long = refl
 
 abbrev pub seconds : List Float
 seconds = map index_f (0 ∷ 1 ∷ 2 ∷ 3 ∷ 4 ∷ 5 ∷ 6 ∷ 7 ∷ 8 ∷ [])

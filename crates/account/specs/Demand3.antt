@@ -3,7 +3,7 @@
 -- handed in was accepted: that the answer is a count. Proved in proofs/Demand3.antt. Worked cases, which show that there is something to
 -- explain, stand in specs/Cases.antt. docs/ACCOUNT.md leads from each sentence of the demand to its place here.
 use Rattle.std.specs.Prelude.{Ok, Some}
-use Rattle.std.specs.Prelude.{◌≡◌, Bool, true, false, List, ◌⊎◌, ◌↔◌, ◌≢◌, ℕ, ◌+◌, ◌*◌, ◌/◌, ◌%◌, ◌≤◌, ◌<◌, length, get_or, take, Float}
+use Rattle.std.specs.Prelude.{◌≡◌, Bool, true, false, List, ◌⊎◌, ◌↔◌, ◌≢◌, ℕ, ◌+◌, ◌-◌, ◌*◌, ◌/◌, ◌%◌, ◌≤◌, ◌<◌, length, get_or, take, Float}
 use Rattle.std.specs.Float.Ieee.{lt, le}
 use Rattle.numeric.specs.Arith.{at}
 use Rattle.record.specs.Record.{size, size_in_bytes, peak_at}
@@ -29,8 +29,7 @@ use Rattle.rtrecord.specs.declared.RtPeak1D.{RtPeak1D}
 use Rattle.chosen.specs.Times.{near_in_time}
 use Rattle.rtapex.specs.InTime.{apex_time}
 use Rattle.rtsearch.specs.Retention.{rt_qualifying, chosen_apexes, has_shares}
-use Rattle.expandtrace.specs.declared.inner.Way.TheVariants.{Smoothed}
-use Rattle.expandtrace.specs.Trace.{way_of}
+use Rattle.expandtrace.specs.Trace.{any_above}
 use Rattle.expandpeak.specs.Expanded.{Run, window_in, floor_of}
 use Rattle.expandmany.specs.Many.{Many, sum_to, weights_at}
 use Rattle.expand.specs.ExpandCall.{Lent as ExpandLists, OneAnswered, ManyAnswered}
@@ -173,10 +172,10 @@ chosen_over run e ws p lo hi =
 abbrev pub shares_over : Run → RtExpandParams → List Float → ImPeak1D → ℕ → ℕ → ℕ → Bool
 shares_over run e ws p lo hi i = has_shares (smooth_over run e ws p lo hi) (raw_over run e p lo hi) (chosen_over run e ws p lo hi) i
 
--- Ordinary: the window is not too short by the Rust's own test (`way_of`, expandtrace/specs/Trace.antt), and a chosen apex meets both shares.
+-- Ordinary: the window is not too short by the Rust's own test (fewer frames than `fallback_if_frames_lt`), and a chosen apex meets both shares.
 pub record OrdinaryPath (run : Run) (e : RtExpandParams) (ws : List Float) (p : ImPeak1D) (lo hi : ℕ) : Type 0 where
   pub window : Window run e p lo hi
-  pub long : Smoothed ≡ way_of (raw_over run e p lo hi) e.fallback_if_frames_lt
+  pub long : e.fallback_if_frames_lt ≤ hi + 1 - lo
   pub apex : ℕ
   pub chosen : apex ∈ chosen_over run e ws p lo hi
   pub shares : shares_over run e ws p lo hi apex ≡ true
@@ -218,6 +217,11 @@ pub record ExpansionAccounted (run : Run) (e : RtExpandParams) (ws : List Float)
   -- all frame bounds lie in the padded frame window
   pub inside : (lo hi : ℕ) → Window run e p lo hi → (k : ℕ) → k < count → Within lo hi (rt_peak_at out (from + k))
   pub ordinary : (lo hi : ℕ) → OrdinaryPath run e ws p lo hi → RetentionAccounted run e ws p lo hi from count out
+  -- off it the fallback has one record at most
+  pub fallback : (lo hi : ℕ) → Window run e p lo hi → (OrdinaryPath run e ws p lo hi → ⊥) → count ≤ 1
+  -- a trace without a reading above 0 is not searched: it has no record, and no apex of it qualifies
+  pub none-above : (lo hi : ℕ) → Window run e p lo hi → any_above (raw_over run e p lo hi) ≡ false
+      → (count ≡ 0) × ((i : ℕ) → i ∈ qualifying_over run e ws p lo hi → ⊥)
 
 -- `expand::expand_im_peak_along_rt`, where it answers a count
 abbrev pub OneExpanded : Type 0

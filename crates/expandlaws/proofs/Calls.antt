@@ -1,55 +1,48 @@
 -- What both forms of expansion's second call hand back.
 use mathlib.Core.Path.{◌≡◌, refl, sym, ap, ◌∙◌, subst}
-use mathlib.Core.Bool.{Bool, true, false, cond}
+use mathlib.Core.Bool.{Bool, true, false}
 use mathlib.Core.List.{List, [], ◌++◌, append_assoc, append-nil}
 use Prim.Native.Nat.{ℕ, zero, suc, ◌≤◌, ◌<◌, ◌+◌, ◌*◌, ◌/◌}
 use native.Mathlib.Omega.{arith}
-use borrow.Author.Tests.{eqb-true, ltb-true, ltb-false}
-use lib.Dec.{ltb, eqb}
+use borrow.Author.Tests.{ltb-true, ltb-false}
+use lib.Dec.{ltb}
 use lib.ListN.{length, get_or, drop, length-map, length-append, get_or-append}
 use lib.Seq.{take_all}
 use lib.Ieee.{Float}
-use Rattle.refusal.proofs.Bools.{clash}
+use Rattle.refusal.proofs.Bools.{all4}
+use Rattle.limits.specs.Limits.{max_reading, max_seconds}
+use Rattle.numeric.specs.Numeric.{all_in_range}
 use Rattle.smoothing.specs.Smoothing.{sound_weights}
 use Rattle.record.specs.Record.{size, peak_at}
 use Rattle.rtrecord.specs.RtRecord.{rt_size}
 use Rattle.rtrecord.specs.declared.RtPeak1D.{RtPeak1D}
 use Rattle.digits.specs.Sorted.{up_to}
 use Rattle.digits.proofs.UpTo.{upto-length, upto-get}
+use Rattle.frameindex.proofs.IndexNumberLaws.{accepted}
+use Rattle.rtparams.specs.Expand.{sound_expand}
 use Rattle.rtparams.specs.declared.RtExpandParams.{RtExpandParams}
+use Rattle.rtlaws.proofs.TimesInOrder.{counted-by}
 use Rattle.expandwindow.proofs.WindowLaws.{sound-numbers}
 use Rattle.expandtrace.specs.FallbackPeaks.{peak_words}
 use Rattle.expandtrace.proofs.Peaks.{words-join, words-length}
 use Rattle.expandpeak.specs.Expanded.{Run}
 use Rattle.expandmany.specs.Many.{Many, sum_to, weights_at, expanded_at, joined_to, count_of, counts_to}
-use Rattle.std.specs.Prelude.{Result, Ok, Err}
-use Rattle.refusal.specs.declared.Refusal.{Refusal}
-use Rattle.refusal.specs.NumberedLaws.{refusal_of}
+use Rattle.std.specs.Prelude.{Ok}
 use Rattle.refusal.proofs.NumberedLaws.{which}
-use Rattle.expand.specs.ExpandCall.{peaks_in, many_number, alone, one_number, peaks_of}
+use Rattle.expandnumbers.specs.ExpandNumber.{sound_values}
+use Rattle.expand.specs.ExpandCall.{Lent, peaks_in, many_asks, many_number, alone, one_number, peaks_of}
 use Rattle.expand.proofs.CallLaws.{records-sound, weights-sound, followed, short}
 use Rattle.expand.proofs.AloneLaws.{one-peak}
-use Rattle.expandlaws.specs.ExpandAccount.{OneAccounted, ManyAccounted}
+use Rattle.expandlaws.specs.ExpandAccount.{PeakAccounted, OneAccounted, ManyAccounted}
 use Rattle.expandlaws.proofs.ExpandAccount.{peak-accounted}
 use Rattle.std.proofs.lemmas.List.{get_or-map}
 
--- ---- the answer
+-- ---- one
 
-abbrev counts : Result ℕ Refusal → Bool
-counts (Ok n) = true
-counts (Err r) = false
-
-abbrev counted : Result ℕ Refusal → ℕ
-counted (Ok n) = n
-counted (Err r) = 0
-
--- a count is answered where no number applies, and it is that of the peaks
-pub counted-by : (number count n : ℕ) → Ok count ≡ cond (eqb number 0) (Ok n) (Err (refusal_of number)) → (number ≡ 0) × (count ≡ n)
-counted-by number count n h = go (eqb number 0) refl h
-  where
-    go : (b : Bool) → eqb number 0 ≡ b → Ok count ≡ cond b (Ok n) (Err (refusal_of number)) → (number ≡ 0) × (count ≡ n)
-    go true t e = (eqb-true number 0 t, ap counted e)
-    go false t e = clash true refl (ap counts e)
+-- the times of an accepted call
+times-ranged : (m : Many) (was : Lent) (counts : ℕ) → many_number m was counts ≡ 0 → all_in_range max_seconds m.run.times ≡ true
+unfolding many_asks sound_values
+times-ranged m was counts none = (all4 (sound_expand m.params) (accepted max_reading m.run.index (many_asks m was counts) none).values).2
 
 -- the weights of the one peak of a list are all that are handed in
 own-weights : (run : Run) (e : RtExpandParams) (peak : List ℕ) (ws : List Float) (first : ℕ) → weights_at (alone run e peak ws first) 0 ≡ ws
@@ -65,7 +58,7 @@ one-accounted run e peak ws first was is count a =
     let m = alone run e peak ws first in
     let one : length peak / size ≡ 1 = one-peak run e peak first was ws told.0 in
     peak-accounted run e ws p first (followed m was 1 told.0) (subst (λ (l : List Float). sound_weights l ≡ true) (own-weights run e peak ws first) (weights-sound m was 1 told.0 0 (omega (arith, one))))
-    (sound-numbers p (records-sound m was 1 told.0 0 (omega (arith, one)))) (short m was 1 told.0)
+    (sound-numbers p (records-sound m was 1 told.0 0 (omega (arith, one)))) (short m was 1 told.0) (times-ranged m was 1 told.0)
     [] (drop (length peaks * rt_size) was.out) is.out 0 count refl told.1 (a.accepted told.0).words
 
 -- ---- many
@@ -131,9 +124,10 @@ many-accounted m was is counts₀ counts total a =
           let place : sum_to counts q ≡ length (joined_to m q) = ap (λ (l : List ℕ). sum_to l q) w.column ∙ column-sum m n q rest (omega arith) in
           let own = expanded_at m q (m.first + length (joined_to m q)) in
           let behind = drop (length joined * rt_size) was.out in
-          peak-accounted m.run m.params (weights_at m q) (peak_at m.list q) (m.first + length (joined_to m q))
+          subst (λ (n : ℕ). PeakAccounted m.run m.params (weights_at m q) (peak_at m.list q) (m.first + n) (sum_to counts q) (get_or counts q 0) is.out) (sym place)
+          (peak-accounted m.run m.params (weights_at m q) (peak_at m.list q) (m.first + length (joined_to m q))
           (followed m was (length counts₀) z) (weights-sound m was (length counts₀) z q h)
-          (sound-numbers (peak_at m.list q) (records-sound m was (length counts₀) z q h)) (short m was (length counts₀) z)
+          (sound-numbers (peak_at m.list q) (records-sound m was (length counts₀) z q h)) (short m was (length counts₀) z) (times-ranged m was (length counts₀) z)
           (peak_words (joined_to m q)) (peak_words c.after ++ behind) is.out (sum_to counts q) (get_or counts q 0)
           (words-length (joined_to m q) ∙ ap (λ (k : ℕ). k * 22) (sym place))
           (ap (λ (l : List ℕ). get_or l q 0) w.column ∙ column-at m n q rest h)
@@ -141,6 +135,6 @@ many-accounted m was is counts₀ counts total a =
           ∙ ap (λ (ps : List RtPeak1D). peak_words ps ++ behind) c.is
           ∙ ap (λ (l : List ℕ). l ++ behind) (words-join (joined_to m q) (own ++ c.after) ∙ ap (λ (l : List ℕ). peak_words (joined_to m q) ++ l) (words-join own c.after))
           ∙ append_assoc (peak_words (joined_to m q)) (peak_words own ++ peak_words c.after) behind
-          ∙ ap (λ (l : List ℕ). peak_words (joined_to m q) ++ l) (append_assoc (peak_words own) (peak_words c.after) behind));
+          ∙ ap (λ (l : List ℕ). peak_words (joined_to m q) ++ l) (append_assoc (peak_words own) (peak_words c.after) behind)));
       all = ap (λ (l : List ℕ). sum_to l n) w.column ∙ column-sum m n n rest (omega arith) ∙ sym told.1;
     }

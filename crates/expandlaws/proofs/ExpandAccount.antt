@@ -1,22 +1,30 @@
 -- The records of a mobility peak bear the listed apexes of the window's trace, on the ordinary path, and lie in its window on every path.
 use mathlib.Core.Path.{◌≡◌, refl, sym, ap, ◌∙◌, subst}
-use mathlib.Core.Bool.{true}
+use mathlib.Core.Bool.{Bool, true, false, cond}
 use mathlib.Core.List.Memᴰ
 use mathlib.Core.List.{List, [], ◌∷◌, ◌++◌, map}
 use mathlib.Core.Logic.{⊎_elim}
-use Prim.Native.Nat.{ℕ, suc, ◌≤◌, ◌<◌, ◌+◌, ◌*◌, ◌^◌}
+use Prim.Native.Nat.{ℕ, suc, ◌≤◌, ◌<◌, ◌+◌, ◌-◌, ◌*◌, ◌^◌}
 use native.Mathlib.Nat.{lt_of_le_of_lt}
 use native.Mathlib.Omega.{arith}
 use lib.ListN.{length, get_or, length-map, length-append}
-use lib.Dec.{lit<}
-use lib.Ieee.{Float}
-use Rattle.limits.specs.Limits.{max_frames, exact_index}
+use borrow.Author.Tests.{ltb-false}
+use lib.Dec.{ltb, lit<}
+use lib.Ieee.{Float, binary32, of_bits}
+use Rattle.limits.specs.Limits.{max_frames, max_seconds, exact_index}
+use Rattle.std.proofs.Common.{le-ltb}
+use Rattle.refusal.proofs.Bools.{clash}
 use Rattle.numeric.specs.Arith.{at}
-use Rattle.numeric.specs.Plain.{AllFit}
+use Rattle.numeric.specs.Numeric.{all_in_range}
+use Rattle.numeric.specs.Plain.{word, AllFit}
 use Rattle.numeric.proofs.Bounds.{one, mag, Num}
 use Rattle.smoothing.specs.Smoothing.{sound_weights}
 use Rattle.smoothing.proofs.Laws.{smoothed-length}
 use Rattle.record.specs.declared.ImPeak1D.{ImPeak1D}
+use Rattle.apex.specs.Apex.{is_candidate}
+use Rattle.windows.specs.Windows.{peak_window}
+use Rattle.rtsearch.specs.Retention.{rt_qualifying}
+use Rattle.expandlaws.proofs.Zeros.{none-above}
 use Rattle.rowsearch.specs.Account.{◌∈◌}
 use Rattle.rowsearch.specs.Qualifying.{left_x, right_x}
 use Rattle.rowlaws.proofs.Enclosed.{left_at, right-at}
@@ -26,23 +34,25 @@ use Rattle.rtrecord.specs.declared.RtApex.{RtApex}
 use Rattle.rtrecord.specs.declared.RtPeak1D.{RtPeak1D}
 use Rattle.rtplace.specs.Placed.{bounds_in, placed}
 use Rattle.std.specs.Prelude.{Option, Some, None}
+use Rattle.rtwindow.specs.declared.Frames.{Frames}
 use Rattle.rtwindow.proofs.Laws.{window-in}
 use Rattle.rtlaws.specs.RtAccount.{RtAccounted}
-use Rattle.rtlaws.proofs.RtAccount.{rt-account}
+use Rattle.rtlaws.proofs.RtAccount.{rt-account, qualifying-are}
 use Rattle.digits.proofs.SortedLaws.{at-index}
 use Rattle.rtparams.specs.declared.RtExpandParams.{RtExpandParams}
-use Rattle.rtapex.specs.InTime.{local_peak_of}
+use Rattle.rtapex.specs.InTime.{apex_time, local_peak_of}
 use Rattle.fallback.specs.Fallback.{fallback_of}
 use Rattle.expandtrace.specs.declared.inner.Way.{Way}
 use Rattle.expandtrace.specs.declared.inner.Way.TheVariants.{AllZero, TooShort, Smoothed}
-use Rattle.expandtrace.specs.Trace.{way_of}
+use Rattle.expandtrace.specs.Trace.{trace_over, any_above, way_of}
 use Rattle.expandtrace.specs.FallbackPeaks.{apexes_in, fallback_peaks, peak_words}
 use Rattle.expandtrace.proofs.Peaks.{placed-length, words-length}
-use Rattle.expandone.specs.Steps.{Followed}
+use Rattle.expandone.specs.Steps.{max_summed, Followed}
 use Rattle.expandone.proofs.Laws.{trace-length, trace-at-most}
 use Rattle.expandpeak.specs.Expanded.{Run, floor_of, searched, or_else, by_way, searched_peaks, peaks_over, peaks_in, window_in, expanded}
 use Rattle.expandlaws.specs.ExpandAccount.{apex_frame, Borne, Encloses, ExpandAccounted, PeakAccounted, raw_over, smooth_over, times_over, listed_over, Ordinary}
-use Rattle.expandlaws.proofs.Placing.{some_apex, Placing, search-placing, over-placing, frame_is, first-is, last-is, in_window}
+use Rattle.expandlaws.proofs.Placing.{some_apex, Placing, search-placing, over-placing, frame_is, time_is, first-is, last-is, identity-is, parent-is, in_window}
+use Rattle.expandlaws.proofs.Times.{apex-time-is, times-are, records-in-time}
 use Rattle.std.proofs.lemmas.List.{get_or-map}
 use Rattle.rtapex.proofs.Laws.{local-index}
 
@@ -63,6 +73,21 @@ index_of (j ∷ l) i m =
 small : one * 2 ^ 82 < 2 ^ 253
 unfolding one
 small = lit< tt
+
+-- a trace that is searched is not too short for it
+abbrev is_smoothed : Way → Bool
+is_smoothed AllZero = false
+is_smoothed TooShort = false
+is_smoothed Smoothed = true
+
+way-long : (x : List Float) (least : ℕ) → Smoothed ≡ way_of x least → least ≤ length x
+unfolding way_of
+way-long x least h = go (any_above x) (ltb (length x) least) refl h
+  where
+    go : (b c : Bool) → ltb (length x) least ≡ c → Smoothed ≡ cond b (cond c TooShort Smoothed) AllZero → least ≤ length x
+    go true true e h = clash true refl (ap is_smoothed h)
+    go true false e h = ltb-false (length x) least e
+    go false c e h = clash true refl (ap is_smoothed h)
 
 -- ---- the ordinary path
 module _ (run : Run) (e : RtExpandParams) (ws : List Float) (p : ImPeak1D) (first lo hi : ℕ) where
@@ -86,10 +111,32 @@ module _ (run : Run) (e : RtExpandParams) (ws : List Float) (p : ImPeak1D) (firs
   found-count =
       placed-length lo (length x) run.ids p (map (λ i. (local_peak_of y x t i).apex) listed) first ∙ length-map listed (λ i. (local_peak_of y x t i).apex)
 
+  -- no apex qualifies where no reading is above 0
+  none-qualify : all_in_range max_summed run.index.readings ≡ true → any_above x ≡ false → (i : ℕ) → i ∈ rt_qualifying (floor_of e y) e.min_width_sec y x t → ⊥
+  unfolding trace_over
+  none-qualify readings none i m =
+      let q = (qualifying-are (floor_of e y) e.min_width_sec y x t i).0 m in
+      let no = none-above max_summed run.index (peak_window run.scale e.bin_pad p) lo (hi + 1 - lo) ws i (lit< tt) readings none in
+      clash (is_candidate y i) q.candidate.is no
+
+  -- so an apex is listed only where one is
+  some-above : all_in_range max_summed run.index.readings ≡ true → 0 < length listed → any_above x ≡ true
+  unfolding searched
+  some-above readings some = go (any_above x) refl
+    where
+      go : (b : Bool) → any_above x ≡ b → b ≡ true
+      go true is = refl
+      go false is =
+          absurd
+          (none-qualify readings is (get_or listed 0 0)
+          ((rt-account (floor_of e y) e.min_sep_sec e.min_width_sec y x t).listed-qualify (get_or listed 0 0) (at-index listed 0 some)))
+
   -- the peaks are those of the search
-  peaks-are : Ordinary run e ws p lo hi → expanded run e ws p first ≡ found
-  unfolding expanded peaks_in peaks_over by_way or_else
-  peaks-are o = rw (← o.window, ← o.long) (go found (subst (λ (n : ℕ). 0 < n) (sym found-count) o.some))
+  peaks-are : all_in_range max_summed run.index.readings ≡ true → Ordinary run e ws p lo hi → expanded run e ws p first ≡ found
+  unfolding expanded peaks_in peaks_over by_way or_else way_of
+  peaks-are readings o =
+      let long : ltb (length x) e.fallback_if_frames_lt ≡ false = le-ltb (length x) e.fallback_if_frames_lt (omega (arith, o.long, trace-length run e p lo hi)) in
+      rw (← o.window, some-above readings o.some, long) (go found (subst (λ (n : ℕ). 0 < n) (sym found-count) o.some))
     where
       go : (l : List RtPeak1D) → 0 < length l → or_else l (fallback_peaks x lo run.ids run.times p e.fallback_frac_width first) ≡ l
       go [] h = absurd (omega arith)
@@ -118,6 +165,13 @@ module _ (run : Run) (e : RtExpandParams) (ws : List Float) (p : ImPeak1D) (firs
         ∙ ap (λ (a : RtApex). lo + a.rt_idx) (apex-is k h)
         ∙ ap (λ (i : ℕ). lo + i) (local-index y x t (get_or listed k 0))
 
+    -- and its time
+    time_at : (k : ℕ) → k < count → (rt_peak_at out (from + k)).apex.rt_sec ≡ of_bits binary32 (word (apex_time y t (get_or listed k 0)))
+    time_at k h =
+        time_is run e ws p lo hi first found apexes g front rest out from count long counted words k h
+        ∙ ap (λ (a : RtApex). of_bits binary32 (word a.rt_sec)) (apex-is k h)
+        ∙ ap (λ (s : Float). of_bits binary32 (word s)) (apex-time-is y x t (get_or listed k 0))
+
     -- an apex has a record exactly if it is listed
     borne : (i : ℕ) → Borne out from count (lo + i) → i ∈ listed
     borne i b =
@@ -134,7 +188,7 @@ module _ (run : Run) (e : RtExpandParams) (ws : List Float) (p : ImPeak1D) (firs
         record { place = r.k; among = h; bears = frame_at r.k h ∙ ap (λ (j : ℕ). lo + j) r.is }
 
     -- the crossings enclose an apex, so that the frames next to them do
-    module _ (f : Followed run e) (sound : sound_weights ws ≡ true) (up : lo ≤ hi) (within : hi < length run.ids) (short : length run.ids ≤ max_frames) where
+    module _ (f : Followed run e) (sound : sound_weights ws ≡ true) (up : lo ≤ hi) (within : hi < length run.ids) (short : length run.ids ≤ max_frames) (timed : all_in_range max_seconds run.times ≡ true) where
       bounds : AllFit run.index.readings → AllFit ws → (i id : ℕ) → i < length x
           → ((placed lo (length x) run.ids p (local_peak_of y x t i).apex id).rt_lo ≤ lo + i)
           × (lo + i ≤ (placed lo (length x) run.ids p (local_peak_of y x t i).apex id).rt_hi)
@@ -175,6 +229,8 @@ module _ (run : Run) (e : RtExpandParams) (ws : List Float) (p : ImPeak1D) (firs
                 let a = account.missing i m in
                 ((λ none. a.0 (λ l. none (bears i l))), (λ why. λ b. a.1 why (borne i b)));
             ordered = enclosed;
+            times = λ fit wfit tfit. times-are run e ws p lo hi f sound up within short timed fit wfit tfit (λ k. (rt_peak_at out (from + k)).apex.rt_sec) count count-is time_at;
+            by-time = λ fit wfit tfit. records-in-time run e ws p lo hi f sound up within short timed fit wfit tfit (λ k. (rt_peak_at out (from + k)).apex.rt_sec) count count-is time_at;
           }
 
   -- ---- another path
@@ -198,11 +254,17 @@ module _ (run : Run) (e : RtExpandParams) (ws : List Float) (p : ImPeak1D) (firs
       go AllZero s l is = omega arith
       go TooShort s l is = fallback-one
       go Smoothed s [] is = fallback-one
-      go Smoothed s (q ∷ l) is = absurd (other (record { window = w; long = s; some = omega (arith, ap length is, found-count) }))
+      go Smoothed s (q ∷ l) is =
+          absurd (other (record { window = w; long = omega (arith, way-long x e.fallback_if_frames_lt s, trace-length run e p lo hi); some = omega (arith, ap length is, found-count) }))
+
+  -- and without a reading above 0 there is no peak
+  none-over : any_above x ≡ false → length (peaks_over run e ws p lo hi first) ≡ 0
+  unfolding peaks_over by_way way_of
+  none-over none = rw none refl
 
 -- ---- every path
 module _ (run : Run) (e : RtExpandParams) (ws : List Float) (p : ImPeak1D) (first : ℕ)
-    (f : Followed run e) (sound : sound_weights ws ≡ true) (numbers : p.frame_id_lo ≤ p.frame_id_hi) (short : length run.ids ≤ max_frames)
+    (f : Followed run e) (sound : sound_weights ws ≡ true) (numbers : p.frame_id_lo ≤ p.frame_id_hi) (short : length run.ids ≤ max_frames) (timed : all_in_range max_seconds run.times ≡ true)
     (front rest out : List ℕ) (from count : ℕ) (long : length front ≡ from * 22)
     (counted : count ≡ length (expanded run e ws p first)) (words : out ≡ front ++ (peak_words (expanded run e ws p first) ++ rest)) where
   no-window : None ≡ window_in run e p → count ≡ 0
@@ -219,10 +281,30 @@ module _ (run : Run) (e : RtExpandParams) (ws : List Float) (p : ImPeak1D) (firs
       let l : length out ≡ length front + (length (peak_words ps) + length rest) = ap length words ∙ length-append front (peak_words ps ++ rest) ∙ ap (λ (n : ℕ). length front + n) (length-append (peak_words ps) rest) in
       omega (arith, l, long, counted, words-length ps)
 
-  pub peak-accounted : PeakAccounted run e ws p from count out
+  -- identities and parents, whichever way was taken
+  named : (k : ℕ) → k < count → ((rt_peak_at out (from + k)).id ≡ first + k) × ((rt_peak_at out (from + k)).parent_im_id ≡ p.id)
+  named k h = go (window_in run e p) refl
+    where
+      go : (w : Option Frames) → w ≡ window_in run e p → ((rt_peak_at out (from + k)).id ≡ first + k) × ((rt_peak_at out (from + k)).parent_im_id ≡ p.id)
+      go None is = absurd (omega (arith, no-window is, h))
+      go (Some w) is =
+          let lo = w.lo in
+          let hi = w.hi in
+          let i = window-in run.ids p.frame_id_lo p.frame_id_hi e.rt_pad_frames lo hi numbers is in
+          let n = trace-length run e p lo hi in
+          let over = over-is lo hi is in
+          let g = over-placing run e ws p lo hi first (omega (arith, n, i.0)) (omega (arith, n, i.1, short)) in
+          let counted_over = counted ∙ ap length over in
+          let words_over = words ∙ ap (λ (ps : List RtPeak1D). front ++ (peak_words ps ++ rest)) over in (
+            identity-is run e ws p lo hi first (peaks_over run e ws p lo hi first) g.apexes g.placing front rest out from count long counted_over words_over k h,
+            parent-is run e ws p lo hi first (peaks_over run e ws p lo hi first) g.apexes g.placing front rest out from count long counted_over words_over k h,
+          )
+
+  pub peak-accounted : PeakAccounted run e ws p first from count out
   peak-accounted =
       record {
         records = all_there;
+        identities = named;
         none = no-window;
         window = λ lo hi w.
             let i = window-in run.ids p.frame_id_lo p.frame_id_hi e.rt_pad_frames lo hi numbers w in
@@ -235,8 +317,9 @@ module _ (run : Run) (e : RtExpandParams) (ws : List Float) (p : ImPeak1D) (firs
             (counted ∙ ap length over) (words ∙ ap (λ (ps : List RtPeak1D). front ++ (peak_words ps ++ rest)) over) some few;
         ordinary = λ lo hi o.
             let i = window-in run.ids p.frame_id_lo p.frame_id_hi e.rt_pad_frames lo hi numbers o.window in
-            let are = peaks-are run e ws p first lo hi o in
+            let are = peaks-are run e ws p first lo hi f.readings o in
             accounted run e ws p first lo hi front rest out from count long (counted ∙ ap length are) (words ∙ ap (λ (ps : List RtPeak1D). front ++ (peak_words ps ++ rest)) are)
-            f sound i.0 i.1 short;
+            f sound i.0 i.1 short timed;
+        none-above = λ lo hi w none. (counted ∙ ap length (over-is lo hi w) ∙ none-over run e ws p first lo hi none, none-qualify run e ws p first lo hi f.readings none);
         fallback = λ lo hi w other. omega (arith, counted, ap length (over-is lo hi w), not-ordinary run e ws p first lo hi w other);
       }

@@ -6,8 +6,9 @@ use Prim.Native.Nat.{ℕ, zero, suc, ◌≤◌, ◌<◌, ◌+◌, ◌-◌, ◌*�
 use native.Mathlib.Omega.{arith}
 use lib.ListN.{length, get_or, length-map}
 use lib.Dec.{lit<}
-use lib.Ieee.{Float, le}
+use lib.Ieee.{Float, binary32, le, of_bits}
 use Rattle.numeric.specs.Arith.{𝟎, ◌⊗◌}
+use Rattle.numeric.specs.Plain.{word}
 use Rattle.rounding.specs.Rounding.{floor_f}
 use Rattle.limits.specs.Limits.{exact_index}
 use Rattle.smoothing.proofs.Laws.{smoothed-length}
@@ -145,6 +146,10 @@ module _ (run : Run) (e : RtExpandParams) (ws : List Float) (p : ImPeak1D) (lo h
     unfolding rt_peak_from apex_from placed rt_peak_of in_run
     frame_is k h = word-at k 0 h (lit< tt)
 
+    pub time_is : (k : ℕ) → k < count → (rt_peak_at out (from + k)).apex.rt_sec ≡ of_bits binary32 (word (apex_at k).rt_sec)
+    unfolding rt_peak_from apex_from placed rt_peak_of in_run
+    time_is k h = ap (of_bits binary32) (word-at k 1 h (lit< tt))
+
     pub first-is : (k : ℕ) → k < count → (rt_peak_at out (from + k)).rt_lo ≡ (placed_for k).rt_lo
     unfolding rt_peak_from rt_peak_of
     first-is k h = word-at k 10 h (lit< tt)
@@ -152,6 +157,14 @@ module _ (run : Run) (e : RtExpandParams) (ws : List Float) (p : ImPeak1D) (lo h
     pub last-is : (k : ℕ) → k < count → (rt_peak_at out (from + k)).rt_hi ≡ (placed_for k).rt_hi
     unfolding rt_peak_from rt_peak_of
     last-is k h = word-at k 11 h (lit< tt)
+
+    pub parent-is : (k : ℕ) → k < count → (rt_peak_at out (from + k)).parent_im_id ≡ p.id
+    unfolding rt_peak_from rt_peak_of placed
+    parent-is k h = word-at k 20 h (lit< tt)
+
+    pub identity-is : (k : ℕ) → k < count → (rt_peak_at out (from + k)).id ≡ first + k
+    unfolding rt_peak_from rt_peak_of placed
+    identity-is k h = word-at k 21 h (lit< tt)
 
     abbrev number_of : ℕ → ℕ
     number_of i = get_or run.ids i 0

@@ -10,10 +10,11 @@ use Rattle.rtrecord.specs.declared.RtPeak1D.{RtPeak1D}
 use Rattle.rtplace.specs.PlacedLaws.{PeakInFrames}
 use Rattle.rowsearch.specs.Account.{◌∈◌}
 use Rattle.rtsearch.specs.Retention.{rt_qualifying, chosen_apexes, has_shares}
+use Rattle.rtapex.specs.InTime.{apex_time}
 use Rattle.rtlaws.specs.RtAccount.{YieldsTo, RtAccounted}
+use Rattle.rtlaws.specs.TimesInOrder.{InTime}
 use Rattle.expandwindow.specs.Window.{cut}
-use Rattle.expandtrace.specs.declared.inner.Way.TheVariants.{Smoothed}
-use Rattle.expandtrace.specs.Trace.{trace_over, way_of}
+use Rattle.expandtrace.specs.Trace.{trace_over, any_above}
 use Rattle.expandpeak.specs.Expanded.{Run, window_in, floor_of, searched}
 use Rattle.expandmany.specs.Many.{Many, sum_to, weights_at}
 use Rattle.expand.specs.ExpandCall.{Lent, OneAnswered, peaks_in, ManyAnswered}
@@ -33,10 +34,11 @@ times_over run lo hi = cut lo hi run.times
 abbrev pub listed_over : Run → RtExpandParams → List Float → ImPeak1D → ℕ → ℕ → List ℕ
 listed_over run e ws p lo hi = searched e (smooth_over run e ws p lo hi) (raw_over run e p lo hi) (times_over run lo hi)
 
--- The path is ordinary (document 01): the peak has the padded frame window lo to hi, its trace is not too short, and an apex is listed.
+-- The path is ordinary (document 01): the peak has the padded frame window lo to hi, which has not fewer frames than the fallback's limit, and
+-- an apex is listed. That a trace has a reading above 0 is not asked: where it has none, no apex qualifies (`none-above` below).
 pub record Ordinary (run : Run) (e : RtExpandParams) (ws : List Float) (p : ImPeak1D) (lo hi : ℕ) : Type 0 where
   pub window : Some (record { lo = lo; hi = hi }) ≡ window_in run e p
-  pub long : Smoothed ≡ way_of (raw_over run e p lo hi) e.fallback_if_frames_lt
+  pub long : e.fallback_if_frames_lt ≤ hi + 1 - lo
   pub some : 0 < length (listed_over run e ws p lo hi)
 
 -- ---- the records of a mobility peak: `count` of a list of words, from place `from` on
@@ -80,16 +82,25 @@ pub record ExpandAccounted (run : Run) (e : RtExpandParams) (ws : List Float) (p
       (chosen_apexes (floor_of e (smooth_over run e ws p lo hi)) e.min_sep_sec e.min_width_sec (smooth_over run e ws p lo hi) (raw_over run e p lo hi) (times_over run lo hi)) i ≡ false))
   -- Bounds enclose the apex. The readings and weights are binary32 values, as every f32 is; owning a slice of them does not tell it.
   pub ordered : AllFit run.index.readings → AllFit ws → (k : ℕ) → k < count → Encloses (rt_peak_at out (from + k))
+  -- Each bears the apex time of its apex, and they stand by it. The times of the run are binary32 values too.
+  pub times : AllFit run.index.readings → AllFit ws → AllFit run.times → (k : ℕ) → k < count
+      → (rt_peak_at out (from + k)).apex.rt_sec ≡ apex_time (smooth_over run e ws p lo hi) (times_over run lo hi) (get_or (listed_over run e ws p lo hi) k 0)
+  pub by-time : AllFit run.index.readings → AllFit ws → AllFit run.times → InTime (λ k. (rt_peak_at out (from + k)).apex.rt_sec) count
 
--- What holds of them on every path.
-pub record PeakAccounted (run : Run) (e : RtExpandParams) (ws : List Float) (p : ImPeak1D) (from count : ℕ) (out : List ℕ) : Type 0 where
+-- What holds of them on every path; `first` is the identity of the first of them.
+pub record PeakAccounted (run : Run) (e : RtExpandParams) (ws : List Float) (p : ImPeak1D) (first from count : ℕ) (out : List ℕ) : Type 0 where
   -- all of them are there, so that nothing is read past an end
   pub records : (from + count) * rt_size ≤ length out
+  -- their identities run on, and each names its mobility peak
+  pub identities : (k : ℕ) → k < count → ((rt_peak_at out (from + k)).id ≡ first + k) × ((rt_peak_at out (from + k)).parent_im_id ≡ p.id)
   -- where there is no window there is no record
   pub none : None ≡ window_in run e p → count ≡ 0
   -- where there is one, all records lie in it; the bounds of the fallback's may stand reversed
   pub window : (lo hi : ℕ) → Some (record { lo = lo; hi = hi }) ≡ window_in run e p → (k : ℕ) → k < count → InWindow run lo hi (rt_peak_at out (from + k))
   pub ordinary : (lo hi : ℕ) → Ordinary run e ws p lo hi → ExpandAccounted run e ws p lo hi from count out
+  -- where no reading of the trace is above 0 there is no record, and no apex qualifies
+  pub none-above : (lo hi : ℕ) → Some (record { lo = lo; hi = hi }) ≡ window_in run e p → any_above (raw_over run e p lo hi) ≡ false
+      → (count ≡ 0) × ((i : ℕ) → i ∈ rt_qualifying (floor_of e (smooth_over run e ws p lo hi)) e.min_width_sec (smooth_over run e ws p lo hi) (raw_over run e p lo hi) (times_over run lo hi) → ⊥)
   -- where the path is not the ordinary one, the fallback has one record at most
   pub fallback : (lo hi : ℕ) → Some (record { lo = lo; hi = hi }) ≡ window_in run e p → (Ordinary run e ws p lo hi → ⊥) → count ≤ 1
 
@@ -99,13 +110,13 @@ pub record PeakAccounted (run : Run) (e : RtExpandParams) (ws : List Float) (p :
 abbrev pub OneAccounted : Type 0
 OneAccounted =
     (run : Run) (e : RtExpandParams) (peak : List ℕ) (ws : List Float) (first : ℕ) (was is : Lent) (count : ℕ)
-    → OneAnswered run e peak ws first was is (Ok count) → PeakAccounted run e ws (peak_at peak 0) 0 count is.out
+    → OneAnswered run e peak ws first was is (Ok count) → PeakAccounted run e ws (peak_at peak 0) first 0 count is.out
 
 -- For many: the column has a count for each mobility peak; the records of the q-th begin behind those of the ones before it, and
--- there are no others: `many-accounted`
+-- there are no others. Identities run on over the whole list: that of the record at place k is m.first + k. `many-accounted`
 pub record AllAccounted (m : Many) (total : ℕ) (counts out : List ℕ) : Type 0 where
   pub each : (q : ℕ) → q < peaks_in m
-      → PeakAccounted m.run m.params (weights_at m q) (peak_at m.list q) (sum_to counts q) (get_or counts q 0) out
+      → PeakAccounted m.run m.params (weights_at m q) (peak_at m.list q) (m.first + sum_to counts q) (sum_to counts q) (get_or counts q 0) out
   pub all : sum_to counts (peaks_in m) ≡ total
 
 abbrev pub ManyAccounted : Type 0

@@ -6,9 +6,8 @@ use mathlib.Core.List.{List, [], ◌∷◌, ◌++◌, append_assoc, map}
 use mathlib.Core.Logic.{◌↔◌, ◌≢◌}
 use Prim.Native.Nat.{ℕ, zero, suc, ◌+◌, ◌-◌, ◌*◌, ◌≤◌, ◌<◌}
 use native.Mathlib.Omega.{arith}
-use native.Mathlib.Nat.{add-zero}
 use borrow.Author.Tests.{ltb-false, le-leb}
-use lib.ListN.{length, get_or}
+use lib.ListN.{length, get_or, get_or-append}
 use lib.Seq.{get_or-append-add}
 use lib.Ieee.{Float, binary32, lt}
 use Rattle.refusal.proofs.Bools.{clash}
@@ -24,7 +23,7 @@ use Rattle.chosen.specs.Ranking.{before, ordered_by}
 use Rattle.chosen.specs.Times.{near_in_time}
 use Rattle.chosen.proofs.ChosenLaws.{each-imp, passing-are, passing-has, passing-each, account}
 use Rattle.chosen.proofs.Ranking.{ordered_same, ordered-distinct, ordered-in-order, ordered-ranked}
-use Rattle.rtrecord.specs.RtRecord.{local_size, local_words, apex_from, local_from, local_at}
+use Rattle.rtrecord.specs.RtRecord.{local_size, local_words, apex_from, local_from}
 use Rattle.rtrecord.specs.declared.RtLocalPeak.{RtLocalPeak}
 use Rattle.rtapex.specs.InTime.{apex_time, local_peak_of}
 use Rattle.rtsearch.specs.Retention.{asks, is_wide, rt_qualifying, lower, by_index, higher_first, later, earlier_first, chosen_apexes, has_shares, listed_apexes, rt_peaks}
@@ -171,22 +170,24 @@ pub peaks-bear : PeaksBear
 unfolding rt_peaks
 peaks-bear floor sep min_width y z t = frames y z t (listed_apexes floor sep min_width y z t)
 
-first_word : (l : List ℕ) (k : ℕ) → (local_at l k).apex.rt_idx ≡ get_or l (k * local_size) 0
-unfolding local_from apex_from
-first_word l k = rw add-zero
-
-words-at : (y z t : List Float) (l rest : List ℕ) (k : ℕ) → k < length l → get_or (peak_words (map (local_peak_of y z t) l) ++ rest) (k * local_size) 0 ≡ get_or l k 0
-unfolding peak_words local_peak_of
-words-at y z t [] rest k h = absurd (omega arith)
-words-at y z t (i ∷ l) rest zero h = refl
-words-at y z t (i ∷ l) rest (suc k) h =
+-- a word of the record at place k
+pub words-at : (y z t : List Float) (l rest : List ℕ) (k j : ℕ) → k < length l → j < local_size
+    → get_or (peak_words (map (local_peak_of y z t) l) ++ rest) (k * local_size + j) 0 ≡ get_or (local_words (local_peak_of y z t (get_or l k 0))) j 0
+unfolding peak_words
+words-at y z t [] rest k j h m = absurd (omega arith)
+words-at y z t (i ∷ l) rest zero j h m =
     let W = local_words (local_peak_of y z t i) in
     let R = peak_words (map (local_peak_of y z t) l) in
-    let e : suc k * local_size ≡ length W + k * local_size = omega arith in
-    rw (e, append_assoc W R rest) (get_or-append-add W (R ++ rest) (k * local_size) 0 ∙ words-at y z t l rest k (omega arith))
+    let e : 0 * local_size + j ≡ j = omega arith in
+    ap (λ (n : ℕ). get_or ((W ++ R) ++ rest) n 0) e ∙ ap (λ (w : List ℕ). get_or w j 0) (append_assoc W R rest) ∙ get_or-append W (R ++ rest) 0 j m
+words-at y z t (i ∷ l) rest (suc k) j h m =
+    let W = local_words (local_peak_of y z t i) in
+    let R = peak_words (map (local_peak_of y z t) l) in
+    let e : suc k * local_size + j ≡ length W + (k * local_size + j) = omega arith in
+    ap (λ (n : ℕ). get_or ((W ++ R) ++ rest) n 0) e ∙ ap (λ (w : List ℕ). get_or w (length W + (k * local_size + j)) 0) (append_assoc W R rest)
+    ∙ get_or-append-add W (R ++ rest) (k * local_size + j) 0 ∙ words-at y z t l rest k j (omega arith) m
 
 pub words-bear : WordsBear
-unfolding rt_peaks
+unfolding rt_peaks local_from apex_from
 words-bear floor sep min_width y z t rest k h =
-    first_word (peak_words (map (local_peak_of y z t) (listed_apexes floor sep min_width y z t)) ++ rest) k
-    ∙ words-at y z t (listed_apexes floor sep min_width y z t) rest k h
+    let l = listed_apexes floor sep min_width y z t in words-at y z t l rest k 0 h (omega arith) ∙ local-index y z t (get_or l k 0)

@@ -1,3 +1,4 @@
--- The definitions that the contracts of `rtplace` cite, and what is proved of them.
+-- The definitions that the contracts of `rtplace` cite, what is proved of them, and worked cases.
 pub mod Placed
 pub mod PlacedLaws
+pub mod Cases

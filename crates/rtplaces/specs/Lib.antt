@@ -1,3 +1,4 @@
--- The definitions that the contracts of `rtplaces` cite.
+-- The definitions that the contracts of `rtplaces` cite, and worked cases.
 pub mod Shares
 pub mod Places
+pub mod Cases
