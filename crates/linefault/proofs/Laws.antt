@@ -14,17 +14,23 @@ use Rattle.limits.specs.Limits.{max_count, last_row}
 use Rattle.table.specs.Sizes.{max_number, max_fields}
 use Rattle.table.specs.Text.{comma, onto, fields, is_number, all_numbers, is_row, row_text, params_text, params_from, params_of}
 use Rattle.std.proofs.Common.{Some, None, Result, Ok, Err}
-use Rattle.std.specs.Result.{is_ok, is_err, IfOk}
+use Rattle.std.specs.Result.{is_ok, is_err, result_err, IsErrAnd, IfOk}
 use Rattle.table.specs.declared.RowsSoFar.{RowsSoFar}
 use Rattle.table.specs.declared.Progress.{Progress}
 use Rattle.table.specs.Table.{is_next, opened, counted, verdict}
 use Rattle.linefault.specs.declared.Kind.{Kind}
-use Rattle.linefault.specs.Faults.{limit_of, all_within, refuses}
+use Rattle.linefault.specs.declared.Fault.{Fault}
+use Rattle.linefault.specs.Faults.{limit_of, all_within, field_fault, fields_fault, refuses}
 
 -- ---- results
 pub err_or-ok : {A E : Type 0} (r : Result A E) (P : A → Type 0) → is_err r ≡ true → (is_ok r ≡ false) × IfOk r P
 err_or-ok (Ok v) P h = clash true refl (sym h)
 err_or-ok (Err e) P h = (refl, tt)
+
+-- the error of a result that has one
+pub error : {A E : Type 0} (r : Result A E) (e : E) → (is_err r ≡ true) × IsErrAnd r (λ x. x ≡ e) → result_err r ≡ Some e
+error (Ok v) e h = absurd h.1
+error (Err x) e h = ap Some h.1
 
 -- ---- the fields of a line
 -- their bytes, and a comma or the end behind each
@@ -45,10 +51,11 @@ widths-fields (b ∷ bs) = go (eqb b comma) (fields bs) (widths-fields bs)
 -- the first n fields are numbers to their limits, and the next one begins at a place
 pub record Seen (kind : Kind) (line : List ℕ) (n at : ℕ) : Type 0 where
   pub within : all_within kind 1 (fields line) ≡ all_within kind (n + 1) (drop n (fields line))
+  pub fault : fields_fault kind 1 0 (fields line) ≡ fields_fault kind (n + 1) at (drop n (fields line))
   pub place : at + widths (drop n (fields line)) ≡ length line + 1
 
 pub seen-none : (kind : Kind) (line : List ℕ) → Seen kind line 0 0
-seen-none kind line = record { within = refl; place = omega (arith, widths-fields line) }
+seen-none kind line = record { within = refl; fault = refl; place = omega (arith, widths-fields line) }
 
 module _ (kind : Kind) (line : List ℕ) (n at : ℕ) (s : Seen kind line n at) where
   -- the next field
@@ -60,22 +67,37 @@ module _ (kind : Kind) (line : List ℕ) (n at : ℕ) (s : Seen kind line n at) 
     unfolding widths
     seen-room = let p : at + widths (f ∷ drop (n + 1) (fields line)) ≡ length line + 1 = rw rest at s.place in omega (arith, p)
 
-    pub seen-next : is_number (limit_of kind (n + 1)) f ≡ true → Seen kind line (n + 1) (at + (length f + 1))
-    unfolding all_within widths
-    seen-next g =
+    within_here : all_within kind 1 (fields line) ≡ all_within kind (n + 1) (f ∷ drop (n + 1) (fields line))
+    within_here = rw rest at s.within
+
+    fault_here : fields_fault kind 1 0 (fields line) ≡ fields_fault kind (n + 1) at (f ∷ drop (n + 1) (fields line))
+    fault_here = rw rest at s.fault
+
+    pub seen-next : is_number (limit_of kind (n + 1)) f ≡ true → field_fault kind (n + 1) at f ≡ None → Seen kind line (n + 1) (at + (length f + 1))
+    unfolding all_within fields_fault widths
+    seen-next g e =
         let p : at + widths (f ∷ drop (n + 1) (fields line)) ≡ length line + 1 = rw rest at s.place in
-        let w : all_within kind 1 (fields line) ≡ all_within kind (n + 1) (f ∷ drop (n + 1) (fields line)) = rw rest at s.within in
-        record { within = w ∙ rw g; place = omega (arith, p) }
+        record { within = within_here ∙ rw g; fault = fault_here ∙ rw e; place = omega (arith, p) }
 
     pub seen-bad : is_number (limit_of kind (n + 1)) f ≡ false → all_within kind 1 (fields line) ≡ false
     unfolding all_within
-    seen-bad g =
-        let w : all_within kind 1 (fields line) ≡ all_within kind (n + 1) (f ∷ drop (n + 1) (fields line)) = rw rest at s.within in
-        w ∙ rw g
+    seen-bad g = within_here ∙ rw g
 
-  pub seen-all : n ≡ length (fields line) → all_within kind 1 (fields line) ≡ true
-  unfolding all_within
-  seen-all e = let g : length (fields line) ≤ n = omega (arith, e) in s.within ∙ rw (drop_of_length-le (fields line) g)
+    pub seen-fault : (x : Fault) → field_fault kind (n + 1) at f ≡ Some x → fields_fault kind 1 0 (fields line) ≡ Some x
+    unfolding fields_fault
+    seen-fault x g = fault_here ∙ rw g
+
+  module _ (e : n ≡ length (fields line)) where
+    none_left : drop n (fields line) ≡ []
+    none_left = let g : length (fields line) ≤ n = omega (arith, e) in drop_of_length-le (fields line) g
+
+    pub seen-all : all_within kind 1 (fields line) ≡ true
+    unfolding all_within
+    seen-all = s.within ∙ rw none_left
+
+    pub seen-good : fields_fault kind 1 0 (fields line) ≡ None
+    unfolding fields_fault
+    seen-good = s.fault ∙ rw none_left
 
 -- ---- what a line is answered with
 rows_alike : (k : ℕ) (fs : List (List ℕ)) → all_within Kind.Row k fs ≡ all_numbers max_number fs

@@ -1,17 +1,18 @@
-// Why a line is refused, for a word on standard error. A fault is found exactly where the line is refused; which of its faults is told is
-// left open. What is printed is decided by `table` alone.
+// Why a line is refused, for a word on standard error. A fault is found exactly where the line is refused (specs/Facts.antt). Which one is
+// told, in which field or at which column, is proved too: specs/Faults.antt says it. What is printed is decided by `table` alone.
 #![tactic(auto)]
 
-ghost use Rattle.std.specs.Prelude.{◌≡◌, true, false, not, ◌≤◌, ◌<◌, ◌+◌, length, drop, is_ok, is_err, is_some, IfOk};
-ghost use Rattle.table.specs.Text.{fields, is_number, row_text, params_of};
-ghost use Rattle.table.specs.Table.{opened, counted, verdict};
-ghost use Rattle.linefault.specs.Faults.{limit_of, all_within, refuses, refused_at_end};
+ghost use Rattle.std.specs.Prelude.{◌≡◌, ◌≤◌, ◌<◌, ◌+◌, length, drop, is_ok, is_some, IfOk};
+ghost use Rattle.std.specs.Result.{result_err};
+ghost use Rattle.table.specs.Text.{fields, is_number};
+ghost use Rattle.linefault.specs.Faults.{limit_of, all_within, bad_field, field_fault, fields_fault, params_fault, row_fault, line_fault};
+ghost use Rattle.linefault.specs.Faults.{ended_fault, last_text, last_line_fault, last_fault_of, end_fault_of, refused_at_end};
 
 use std::fmt;
 use table::{Progress, RowsSoFar};
 
-// What is wrong with a line, and where: in which field or with how many of them, and at which column, both counted from 1. A line
-// that is refused, but has none of the others, is unlike docs/INPUT.md.
+// What is wrong with a line, and where: in which field or with how many of them, and at which column, both counted from 1. `Unlike` is
+// told of a line with none of the others, and no line that is refused is one.
 #[derive(Clone, Copy, Debug, PartialEq, Eq)]
 pub enum Fault {
     Unlike,
@@ -93,6 +94,7 @@ pub fn limit_of(kind: Kind, field: usize) -> u32
 // What is wrong with a field that is no number to its limit, and starts at a place.
 fn bad_field(text: &[u8], at: usize, field: usize, limit: u32) -> Fault
     requires { at + length text.now < 0x1_0000_0000_0000_0000 }
+    ensures { result ≡ bad_field limit field at text.now }
 {
     if text.is_empty() {
         return Fault::EmptyField { field };
@@ -112,7 +114,8 @@ fn bad_field(text: &[u8], at: usize, field: usize, limit: u32) -> Fault
 // The number of a field, to its limit.
 fn check_field(text: &[u8], at: usize, kind: Kind, field: usize) -> Result<u32, Fault>
     requires { at + length text.now < 0x1_0000_0000_0000_0000 }
-    ensures { is_ok result ≡ is_number (limit_of kind field) text.now }
+    ensures good { is_ok result ≡ is_number (limit_of kind field) text.now }
+    ensures fault { result_err result ≡ field_fault kind field at text.now }
 {
     let limit = limit_of(kind, field);
     table::number(text, limit).ok_or_else(|| bad_field(text, at, field, limit))
@@ -122,6 +125,7 @@ fn check_field(text: &[u8], at: usize, kind: Kind, field: usize) -> Result<u32, 
 fn count_fields(line: &[u8], kind: Kind) -> Result<usize, Fault>
     ensures good { is_ok result ≡ all_within kind 1 (fields line.now) }
     ensures count { IfOk result (λ n. n ≡ length (fields line.now)) }
+    ensures fault { result_err result ≡ fields_fault kind 1 0 (fields line.now) }
 {
     // The count is the answer: as a `try_fold` the place and the count would be a pair that each turn makes anew.
     let mut at = 0usize;
@@ -135,7 +139,7 @@ fn count_fields(line: &[u8], kind: Kind) -> Result<usize, Fault>
 }
 
 fn check_params(line: &[u8]) -> Result<(), Fault>
-    ensures { is_err result ≡ refuses (opened (params_of line.now)) }
+    ensures { result_err result ≡ params_fault line.now }
 {
     let fields = count_fields(line, Kind::Params)?;
     if fields != 3 {
@@ -145,7 +149,7 @@ fn check_params(line: &[u8]) -> Result<(), Fault>
 }
 
 fn check_row(s: RowsSoFar, line: &[u8]) -> Result<(), Fault>
-    ensures { is_err result ≡ refuses (counted s (row_text line.now)) }
+    ensures { result_err result ≡ row_fault s line.now }
 {
     let fields = count_fields(line, Kind::Row)?;
     if fields > table::MAX_FIELDS {
@@ -165,7 +169,7 @@ fn check_row(s: RowsSoFar, line: &[u8]) -> Result<(), Fault>
 
 // What is wrong with a line, given without its CR LF.
 fn check_line(s: Progress, line: &[u8]) -> Result<(), Fault>
-    ensures { is_err result ≡ refuses (verdict s line.now) }
+    ensures { result_err result ≡ line_fault s line.now }
 {
     if line.is_empty() {
         return Err(Fault::Blank);
@@ -178,13 +182,16 @@ fn check_line(s: Progress, line: &[u8]) -> Result<(), Fault>
 
 // The place behind the last LF, or 0.
 fn line_start(bytes: &[u8]) -> usize
-    ensures { result ≤ length bytes.now }
+    ensures within { result ≤ length bytes.now }
+    ensures behind { drop result bytes.now ≡ last_text bytes.now }
 {
     bytes.iter().rposition(|b| *b == b'\n').map_or(0, |i| i + 1)
 }
 
 // What is wrong with a line that an LF ends, given without the LF.
-fn check_ended(s: Progress, text: &[u8]) -> Result<(), Fault> {
+fn check_ended(s: Progress, text: &[u8]) -> Result<(), Fault>
+    ensures { result_err result ≡ ended_fault s text.now }
+{
     match text.split_last() {
         Some((b'\r', line)) => check_line(s, line),
         _ => Err(Fault::BareLf),
@@ -192,7 +199,9 @@ fn check_ended(s: Progress, text: &[u8]) -> Result<(), Fault> {
 }
 
 // What is wrong with the last line of some bytes, where s has been accepted before it.
-fn check_last(s: Progress, bytes: &[u8]) -> Result<(), Fault> {
+fn check_last(s: Progress, bytes: &[u8]) -> Result<(), Fault>
+    ensures { result_err result ≡ last_line_fault s bytes.now }
+{
     let Some((&last, text)) = bytes.split_last() else {
         return Err(Fault::NoLine);
     };
@@ -206,14 +215,17 @@ fn check_last(s: Progress, bytes: &[u8]) -> Result<(), Fault> {
     check_line(s, line)
 }
 
-// The same of a line that is refused.
-pub fn last_fault(s: Progress, bytes: &[u8]) -> Fault {
+// The same of a line that is refused; of one that is not, `Unlike`.
+pub fn last_fault(s: Progress, bytes: &[u8]) -> Fault
+    ensures { result ≡ last_fault_of s bytes.now }
+{
     check_last(s, bytes).err().unwrap_or(Fault::Unlike)
 }
 
 // What is wrong at the end of the input, if anything: with the bytes behind the last line that has an end, or in that there is no line.
 pub fn end_fault(s: Progress, bytes: &[u8]) -> Option<Fault>
-    ensures { is_some result ≡ refused_at_end s bytes.now }
+    ensures fault { result ≡ end_fault_of s bytes.now }
+    ensures refused { is_some result ≡ refused_at_end s bytes.now }
 {
     if !bytes.is_empty() {
         return check_line(s, bytes).err();

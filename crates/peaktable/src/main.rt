@@ -4,10 +4,13 @@
 
 mod say;
 
-ghost use Rattle.std.specs.Prelude.{◌≡◌, List, ℕ, ◌≤◌, ◌<◌, ◌+◌, length, take, is_some, IfOk};
+ghost use Rattle.std.specs.Prelude.{◌≡◌, ◌≢◌, true, Some, List, ℕ, ◌≤◌, ◌<◌, ◌+◌, length, take, IfOk};
 ghost use Rattle.table.specs.Sizes.{max_fields, max_line, line_room};
-ghost use Rattle.linefault.specs.Faults.{refused_at_end};
-ghost use Rattle.tablejob.specs.Stands.{Ends};
+ghost use Rattle.table.specs.Lines.{no_lf};
+ghost use Rattle.linefault.specs.declared.Fault.{Fault};
+ghost use Rattle.linefault.specs.Faults.{last_line_fault, last_fault_of, end_fault_of};
+ghost use Rattle.tabletext.specs.Refused.{RefusedLast};
+ghost use Rattle.tablejob.specs.Stands.{held, Reached, Ends};
 
 use linefault::Fault;
 use say::Failure;
@@ -23,14 +26,15 @@ fn more_bytes(input: &mut Stdin, buf: &mut [u8], have: usize) -> io::Result<usiz
     input.read(&mut buf[have..])
 }
 
-// Writes the end of the table of all that was read, after a word on standard error where it is a refusal.
+// Writes the end of the table of all that was read, after a word on standard error where it is a refusal: of the line that comes behind
+// those that have been accepted.
 fn finish(
     rt: &(impl Print + Eprint),
     j: Job,
     fault: Option<Fault>,
     out: &[u8],
 ) -> Result<(), Failure>
-    requires { (j.waiting ≤ length out.now) × ((input : List ℕ) × (gone : List ℕ) × Ends input gone out.now j) }
+    requires { (j.waiting ≤ length out.now) × ((input : List ℕ) × (gone : List ℕ) × (left : List ℕ) × Ends input gone out.now j × Reached input j.progress left) }
 {
     if let Some(fault) = fault {
         say::refused(rt, j.progress, fault);
@@ -41,15 +45,18 @@ fn finish(
 
 // The fault of the line that ended the table, whatever comes behind it.
 fn fault_behind(j: Job, buf: &[u8]) -> Fault
-    requires { j.from ≤ length buf.now }
+    requires { (j.from ≤ length buf.now) × RefusedLast j.progress (take j.from buf.now) }
+    ensures value { result ≡ last_fault_of j.progress (take j.from buf.now) }
+    ensures found { last_line_fault j.progress (take j.from buf.now) ≡ Some result }
+    ensures named { result ≢ Fault.Unlike }
 {
     linefault::last_fault(j.progress, &buf[..j.from])
 }
 
-// The fault at the end of the input, if there is one.
+// The fault at the end of the input, if there is one: of all that is held, which is one line or none.
 fn fault_at_end(j: Job, buf: &[u8]) -> Option<Fault>
-    requires { j.have ≤ length buf.now }
-    ensures { is_some result ≡ refused_at_end j.progress (take j.have buf.now) }
+    requires { (j.from ≡ 0) × (j.have ≤ length buf.now) × (no_lf (held buf.now j) ≡ true) }
+    ensures { result ≡ end_fault_of j.progress (take j.have buf.now) }
 {
     linefault::end_fault(j.progress, &buf[..j.have])
 }

@@ -1,5 +1,8 @@
 // Words on standard error, for people: the first one of a line tells what the program installed as `peaktable` answers as its exit
 // status (docs/TABLE.md).
+ghost use Rattle.std.specs.Prelude.{◌≡◌};
+ghost use Rattle.tabletext.specs.Refused.{line_number};
+
 use linefault::Fault;
 use std::fmt;
 use std::io::{self, ErrorKind};
@@ -33,8 +36,10 @@ impl fmt::Display for Failure {
     }
 }
 
-// The input line that comes next: the rows count from the second line on.
-fn line_number(s: Progress) -> u64 {
+// The number of the input line that comes next: the rows count from the second line on.
+fn line_number(s: Progress) -> u64
+    ensures { result ≡ line_number s }
+{
     match s {
         Progress::Start => 1,
         Progress::Rows(t) => u64::from(t.rows) + 2,

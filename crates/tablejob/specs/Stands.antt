@@ -7,6 +7,7 @@ use Rattle.table.specs.Print.{put_at}
 use Rattle.table.specs.Lines.{no_lf}
 use Rattle.peaklines.specs.TableText.{table_text}
 use Rattle.tabletext.specs.Bytes.{text_from}
+use Rattle.tabletext.specs.Refused.{line_starts, Accepted, RefusedLast}
 use Rattle.tablejob.specs.declared.inner.Job.{Job}
 
 -- ---- a job
@@ -35,11 +36,13 @@ handed_over j = record { progress = j.progress; from = j.from; have = j.have; se
 abbrev pub over : Job → ℕ → Job
 over j n = record { progress = j.progress; from = j.have; have = j.have; seen = 0; waiting = j.waiting + n; goes_on = false }
 
--- Its places lie in the buffer and in the room for text, and the bytes that need not be searched again have no LF.
+-- Its places lie in the buffer and in the room for text, the bytes that need not be searched again have no LF, and as long as the table
+-- goes on, those that are held start a line.
 pub record Within (buf : List ℕ) (room : ℕ) (j : Job) : Type 0 where
   pub order : j.from + j.seen ≤ j.have
   pub bytes : j.have ≤ length buf
   pub seen : no_lf (take j.seen (held buf j)) ≡ true
+  pub start : j.goes_on ≡ true → line_starts (take j.from buf) ≡ true
   pub text : j.waiting ≤ room
 
 -- A read is due: the bytes that are held are the start of a line, they stand at the front, and there is room for more of them and for
@@ -58,10 +61,19 @@ pub record Added (out₀ out x : List ℕ) (waiting n : ℕ) : Type 0 where
 
 -- ---- the table
 
+-- Lines of the input are accepted, from its start on, which gives s, and these bytes follow them.
+pub record Reached (input : List ℕ) (s : Progress) (bytes : List ℕ) : Type 0 where
+  pub done : List ℕ
+  pub split : input ≡ done ++ bytes
+  pub accepted : Accepted Progress.Start done s
+
 -- The bytes `input` have been read and the text `gone` has been handed over: whatever follows that input, the table is that text, then
--- the text that waits and, where the table goes on, what is printed for the bytes that are held and what follows.
+-- the text that waits and, where the table goes on, what is printed for the bytes that are held and what follows. The progress is that
+-- behind the lines before the bytes that are held or, where the table has ended, before the line that ended it.
 pub record Stands (input gone buf out : List ℕ) (j : Job) : Type 0 where
   pub text : (rest : List ℕ) → table_text (input ++ rest) ≡ gone ++ (take j.waiting out ++ cond j.goes_on (text_from j.progress (held buf j ++ rest)) [])
+  pub accepted : j.goes_on ≡ true → Reached input j.progress (held buf j)
+  pub refused : j.goes_on ≡ false → (r : RefusedLast j.progress (take j.from buf)) × Reached input j.progress (r.line ++ held buf j)
 
 -- All of the input has been read: its table is what has been handed over and what waits.
 pub record Ends (input gone out : List ℕ) (j : Job) : Type 0 where

@@ -5,6 +5,7 @@ ghost use Rattle.table.specs.Sizes.{max_fields, max_line, line_room};
 ghost use Rattle.table.specs.Print.{refusal};
 ghost use Rattle.table.specs.Lines.{no_lf};
 ghost use Rattle.tabletext.specs.Bytes.{text_from};
+ghost use Rattle.tabletext.specs.Refused.{RefusedLast};
 ghost use Rattle.tablejob.specs.Stands.{first, held, at_front, with_bytes, handed_over, over, Within, Ready, Added, Stands, Ends};
 
 use table::Progress;
@@ -86,6 +87,7 @@ impl Job {
         ensures within { Within buf.now (length out.old) result }
         ensures keeps { (input gone : List ℕ) → Stands input gone buf.now out.old self → Stands input gone buf.now out.new result }
         ensures through { result.goes_on ≡ true → result.waiting + line_room ≤ length out.old → no_lf (held buf.now result) ≡ true }
+        ensures refused { result.goes_on ≡ false → RefusedLast result.progress (take result.from buf.now) }
     {
         let f = tabletext::inner::put_lines(
             self.progress,
@@ -130,12 +132,13 @@ impl Job {
     }
 
     // Works through the bytes that are held: all lines that have an end, or as many as there is room for. With room for more text, and
-    // where the table goes on, a read is due.
+    // where the table goes on, a read is due. Where it does not, the bytes before `from` end with the line that is refused.
     pub fn work(self, buf: &mut [u8], row: &mut [f32], out: &mut [u8]) -> Self
         requires { Within buf.old (length out.old) self × (self.goes_on ≡ true) × (max_line < length buf.old) × (max_fields ≤ length row.old) }
         ensures within { Within buf.new (length out.old) result }
         ensures keeps { (input gone : List ℕ) → Stands input gone buf.old out.old self → Stands input gone buf.new out.new result }
         ensures ready { result.goes_on ≡ true → result.waiting + line_room ≤ length out.old → Ready buf.new (length out.old) result }
+        ensures refused { result.goes_on ≡ false → RefusedLast result.progress (take result.from buf.new) }
     {
         let t = self.lines(buf, row, out);
         if !t.goes_on {
@@ -156,6 +159,7 @@ impl Job {
         requires { Ready buf.now (length out.old) self × (self.goes_on ≡ true) × (max_fields ≤ length row.old) }
         ensures within { Within buf.now (length out.old) result }
         ensures ends { (input gone : List ℕ) → Stands input gone buf.now out.old self → Ends input gone out.new result }
+        ensures progress_unchanged { result.progress ≡ self.progress }
     {
         let used = tabletext::inner::put_last(
             self.progress,

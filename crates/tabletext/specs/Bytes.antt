@@ -7,6 +7,7 @@ use Rattle.table.specs.Table.{lines, printed_from}
 use Rattle.table.specs.Lines.{no_lf}
 use Rattle.peaklines.specs.TableText.{peaks_text, table_text}
 use Rattle.tabletext.specs.declared.inner.Fed.{Fed}
+use Rattle.tabletext.specs.Refused.{Accepted, EndedBy}
 
 -- What is printed for bytes, from what has been accepted before them on.
 abbrev pub text_from : Progress → List ℕ → List ℕ
@@ -30,6 +31,10 @@ pub record Put (s : Progress) (bytes out₀ out : List ℕ) (f : Fed) : Type 0 w
   pub text : (rest : List ℕ) → text_from s (bytes ++ rest) ≡ take f.used out ++ text_left f (drop f.from bytes ++ rest)
   -- no text for no line
   pub idle : f.from ≡ 0 → f.used ≡ 0
+  -- the bytes before that place are lines that are accepted
+  pub accepted : f.goes_on ≡ true → Accepted s (take f.from bytes) f.progress
+  -- but where the table has ended, the last of them is refused
+  pub refused : f.goes_on ≡ false → EndedBy s (take f.from bytes) f.progress
 
 -- With room for one line more, no line that has an end is left.
 abbrev pub Through : List ℕ → List ℕ → Fed → Type 0

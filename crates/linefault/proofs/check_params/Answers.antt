@@ -1,14 +1,19 @@
-use Rattle.std.proofs.Common.{sym, ◌∙◌}
-use Rattle.linefault.proofs.Laws.{first-bad, first_count, first_good}
+use Rattle.std.proofs.Common.{sym, ◌∙◌, ap, Some}
+use Rattle.linefault.specs.declared.Fault.{Fault}
+use Rattle.linefault.proofs.Laws.{error}
+use Rattle.linefault.proofs.Told.{params_bad, params_count, params-none}
 use Rattle.linefault.proofs.check_params.Goals as goal
 
 pub returns-in_err-fields : goal.returns-in_err-fields
-returns-in_err-fields c = c.from_residual.ensures.0 ∙ sym (first-bad c.args.line.now (sym c.in_err-fields.ensures.good))
+returns-in_err-fields c =
+    error c.from_residual.result _ c.from_residual.ensures ∙ sym (params_bad c.args.line.now _ (sym c.in_err-fields.ensures.fault))
 
 pub returns-then-fields-ne3 : goal.returns-then-fields-ne3
-returns-then-fields-ne3 c = sym (first_count c.args.line.now (λ q. c.if-fields-ne3.true (c.in_ok-fields.ensures.count ∙ q)))
+returns-then-fields-ne3 c =
+    let e = c.in_ok-fields.ensures in
+    ap (λ n. Some (Fault.NotThree n)) e.count ∙ sym (params_count c.args.line.now (sym e.fault) (λ q. c.if-fields-ne3.true (e.count ∙ q)))
 
 pub returns : goal.returns
 returns c =
     let e = c.in_ok-fields.ensures in
-    sym (first_good c.args.line.now (sym e.good) (sym e.count ∙ c.if-fields-ne3.false))
+    sym (params-none c.args.line.now (sym e.fault) (sym e.count ∙ c.if-fields-ne3.false))

@@ -9,7 +9,7 @@ use Rattle.std.proofs.lemmas.Iterator.Splits.{YieldsList-from_slice_split}
 use Rattle.std.proofs.lemmas.Iterator.Consumers.{YieldsList-turn, YieldsList-end}
 use Rattle.table.specs.Text.{comma, fields}
 use Rattle.table.proofs.Laws.{fields_split}
-use Rattle.linefault.proofs.Laws.{err_or-ok, seen-none, seen-room, seen-next, seen-bad, seen-all}
+use Rattle.linefault.proofs.Laws.{err_or-ok, error, seen-none, seen-room, seen-next, seen-bad, seen-fault, seen-all, seen-good}
 use Rattle.linefault.proofs.count_fields.Goals.{In-Some}
 use Rattle.linefault.proofs.count_fields.Goals as goal
 
@@ -44,16 +44,21 @@ returns-in_err-check_field c =
     let o = c.loop-text in
     let line = c.args.line.now in
     let u = turn (goal.at.returns-in_err-check_field c).In-Some in
-    let w = seen-bad c.args.kind line o.count o.at o.invariant.1 c.in-Some.text.now u.0 u.1 (sym c.in_err-check_field.ensures) in
+    let e = c.in_err-check_field.ensures in
+    let w = seen-bad c.args.kind line o.count o.at o.invariant.1 c.in-Some.text.now u.0 u.1 (sym e.good) in
+    let x = seen-fault c.args.kind line o.count o.at o.invariant.1 c.in-Some.text.now u.0 u.1 _ (sym e.fault) in
     let r = err_or-ok c.from_residual.result _ c.from_residual.ensures.0 in
-    record { good = r.0 ∙ sym w; count = r.1 }
+    record { good = r.0 ∙ sym w; count = r.1; fault = error c.from_residual.result _ c.from_residual.ensures ∙ sym x }
 
 pub loop-text-preserved : goal.loop-text-preserved
 loop-text-preserved c =
     let o = c.loop-text in
     let line = c.args.line.now in
     let u = turn (goal.at.loop-text-preserved c).In-Some in
-    (omega (arith, o.invariant.0, length_push o.yielded c.in-Some.text), seen-next c.args.kind line o.count o.at o.invariant.1 c.in-Some.text.now u.0 u.1 (sym c.in_ok-check_field.ensures))
+    let e = c.in_ok-check_field.ensures in (
+      omega (arith, o.invariant.0, length_push o.yielded c.in-Some.text),
+      seen-next c.args.kind line o.count o.at o.invariant.1 c.in-Some.text.now u.0 u.1 (sym e.good) (sym e.fault),
+    )
 
 pub returns : goal.returns
 returns c =
@@ -61,4 +66,8 @@ returns c =
     let line = c.args.line.now in
     let z = YieldsList-end (YieldsList-from_slice_split _ (λ b. eqb b comma) c.args.line.now (cc) (cc) (cc) (λ x b q k. search (rules, tests))) o.yielded o.text-iterator o.yielded_by c.next.result c.next.new.self c.in-None.is c.next.ensures.steps in
     let n : o.count ≡ length (fields line) = rw (fields_split line) (o.invariant.0 ∙ z.1) in
-    record { good = sym (seen-all c.args.kind line o.count o.at o.invariant.1 n); count = n }
+    record {
+      good = sym (seen-all c.args.kind line o.count o.at o.invariant.1 n);
+      count = n;
+      fault = sym (seen-good c.args.kind line o.count o.at o.invariant.1 n);
+    }

@@ -1,9 +1,9 @@
 use mathlib.Core.Path.{refl, ◌∙◌}
-use mathlib.Core.List.{[]}
+use mathlib.Core.List.{[], ◌++◌}
 use native.Mathlib.Omega.{arith}
 use lib.ListN.{length}
 use borrow.Author.Tests.{not-true, not-false}
-use Rattle.tablejob.specs.Stands.{Within, Ready}
+use Rattle.tablejob.specs.Stands.{held, Within, Ready}
 use Rattle.tablejob.proofs.Laws.{stands-first, stands_read, stands-written, ends-refused, within_first, within-written, within-read, stands-end}
 use Rattle.peaktable.proofs.run.Goals.{then-out-job-lt-LINE_ROOM+in_ok-write_all, else-out-job-lt-LINE_ROOM+in-Ok}
 use Rattle.peaktable.proofs.run.Goals as goal
@@ -18,7 +18,9 @@ finish-requires g c =
     let w = c.work-job in
     let t = l.invariant.5 in
     let k = w.ensures.keeps t.0 t.1 t.2 in
-    (omega (arith, w.auto.out, w.ensures.within.text), (t.0, t.1, ends-refused t.0 t.1 w.new.buf w.new.out w.result (not-true _ c.if-not-job.true) k))
+    let off = not-true _ c.if-not-job.true in
+    let r = k.refused off in
+    (omega (arith, w.auto.out, w.ensures.within.text), (t.0, t.1, r.0.line ++ held w.new.buf w.result, ends-refused t.0 t.1 w.new.buf w.new.out w.result off k, r.1))
 
 pub loop-preserved : goal.loop-preserved
 loop-preserved g c =
@@ -66,4 +68,4 @@ finish-requires-in-Ok-eq0 g c =
     let k = w.ensures.keeps t.0 t.1 t.2 in
     let r' : Ready w.new.buf (length w.new.out) w.result = rw w.auto.out r in
     let k' = stands-end w.new.buf m.new.buf (length w.new.out) w.result r' m.ensures.buf_unchanged m.auto.buf t.0 t.1 w.new.out k in
-    (omega (arith, d.auto.out, d.ensures.within.text), (t.0, t.1, d.ensures.ends t.0 t.1 k'))
+    (omega (arith, d.auto.out, d.ensures.within.text), (t.0, t.1, held w.new.buf w.result, d.ensures.ends t.0 t.1 k', rw d.ensures.progress_unchanged (k.accepted on)))

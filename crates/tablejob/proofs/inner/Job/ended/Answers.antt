@@ -1,3 +1,4 @@
+use mathlib.Core.Path.{refl}
 use Prim.Native.Nat.{◌≤◌}
 use native.Mathlib.Omega.{arith}
 use lib.ListN.{length, take}
@@ -15,4 +16,5 @@ returns c =
     rw c.over.ensures (record {
       within = over-within c.args.buf.now (length c.args.out.now) p.result j (omega (arith, r.more)) a.room;
       ends = λ input gone h. over-ends input gone c.args.buf.now c.args.out.now _ j p.result m c.requires.1 r.front a h;
+      progress_unchanged = refl;
     })

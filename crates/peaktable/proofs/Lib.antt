@@ -1,0 +1,2 @@
+-- What the proofs of `peaktable` share.
+pub mod Laws
