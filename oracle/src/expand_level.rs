@@ -1,7 +1,7 @@
 //! Expansion through the C entries, of one mobility peak and of many: all ways that a peak can take, answers and refusals, with all lent
 //! lists compared before and after. The Rust makes its weights itself, of the sigma of a peak's window and its truncation; the port is
-//! handed the same ones, made here by the same expression of the sigma that its own first call gave. The Rust's identities are
-//! hashes: the port's stand in their place, and a mobility peak's own identity is its record's.
+//! handed the same ones, made here by the same expression of the Rust's sigma, which the port's first call must give too. The Rust's
+//! identities are hashes: the port's stand in their place, and a mobility peak's own identity is its record's.
 use crate::cluster::peak::{
     self as rust, expand_im_peak_along_rt, expand_many_im_peaks_along_rt, expand_many_im_peaks_along_rt_flat, find_rt_peaks, RtPeak1D,
 };
@@ -10,15 +10,16 @@ use crate::inputs::{any, limit, row, Rng};
 use crate::leaves::in_range;
 use crate::records::{sound, WORDS};
 use crate::retention_level::{
-    axis, frame_bounds, lent, numbers, params, rt_words, rust_mode, rust_params, sound_params, sound_record, spoil_params, window,
+    axis, frame_bounds, lent, numbers, params, record_of, rt_words, rust_mode, rust_params, sound_params, sound_record, spoil_params, window,
+    Windowed,
 };
 use crate::row_level::{gaussian, most, sound_weights, weighted_means};
 use crate::stitch_level::peak;
 use crate::tof_level::{disagrees, rust_scale};
-use crate::{bits, shapes, Tally};
+use crate::{bits, making, shapes, Tally};
 use rubzolena::{
     expand_im_peak_into, expand_many_im_peaks_into, expand_window_into, ExpandScratch, FrameIndex, Index, RtExpandParams, RtTraceCtx, Run,
-    TofScale, RT_WORDS, WINDOW_WORDS,
+    ThresholdMode, TofScale, RT_WORDS, WINDOW_WORDS,
 };
 
 /// A call: records, the run that they are followed in, and the places of list, count column and the three scratch lists that are lent.
@@ -83,8 +84,19 @@ impl Expand {
         Run { index: Index::from(&self.index), scale: self.scale, ctx: self.ctx(), params: self.params }
     }
 
-    /// The sigma of each peak by the port's first call; 0 for a peak without a window, or one that is refused.
+    /// The first call for each peak.
+    fn windows(&self) -> impl Iterator<Item = Windowed> + '_ {
+        let call = |w: &[u32]| Windowed { peak: w.to_vec(), ids: self.ids.clone(), times: self.times.clone(), params: self.params, room: WINDOW_WORDS };
+        self.list.chunks_exact(WORDS).map(call)
+    }
+
+    /// The Rust's sigma of each peak; 0 for a peak without a window, or one that is refused.
     fn sigmas(&self) -> Vec<f32> {
+        self.windows().map(|c| c.sigma()).collect()
+    }
+
+    /// The same by the port's first call.
+    fn port_sigmas(&self) -> Vec<f32> {
         let sigma = |w: &[u32]| {
             let mut out = [0; WINDOW_WORDS];
             match expand_window_into(w, self.ctx(), self.params, &mut out) {
@@ -167,6 +179,10 @@ impl Expand {
     }
 }
 
+fn words_of(list: &[f32]) -> Vec<u32> {
+    list.iter().map(|x| bits(*x)).collect()
+}
+
 /// Which way the Rust's answer went, for the counts of ways.
 pub struct Ways(pub [u64; 5]);
 
@@ -180,6 +196,7 @@ fn one(t: &mut Tally, c: &Expand, single: bool, ways: &mut Ways) {
         let found = c.rust();
         let (words, counts) = c.words(&found);
         answer = Ok(words.len() / RT_WORDS);
+        t.same("expansion: sigmas by the first call", &(c.frames(), c.count(), c.params), words_of(&c.port_sigmas()), words_of(&c.sigmas()));
         expected[0][..words.len()].copy_from_slice(&words);
         if !single {
             expected[1][..counts.len()].copy_from_slice(&counts);
@@ -339,7 +356,7 @@ pub fn sample(r: &mut Rng) -> Expand {
     let list: Vec<u32> = (0..peaks)
         .flat_map(|_| {
             let mut w = sound_record(r);
-            if sound(&w) {
+            if making(|| sound(&w)) {
                 let low = scale.tof_min + bin * step;
                 (w[2], w[3]) = (low, low + step * r.below(3) as u32);
                 if r.one_in(10) {
@@ -411,11 +428,6 @@ pub fn spoil(r: &mut Rng, c: &mut Expand) {
 /// Calls with the corners of document 01 and of docs/DIFFERENCES.md, with what each shows.
 pub fn corners() -> Vec<(&'static str, Expand)> {
     let scale = TofScale { tof_min: 0, tof_max: 9, tof_step: 1, num_bins: 10 };
-    let record = |lo: u32, hi: u32| {
-        let mut w = vec![0; WORDS];
-        (w[0], w[2], w[3], w[6], w[7], w[8], w[9], w[15], w[26]) = (4, 4, 4, lo, hi, 1, 6, 9, 77);
-        w
-    };
     let call = |y: &[f32], lo: u32, hi: u32, params: RtExpandParams| {
         let mut i = FrameIndex::default();
         for v in y {
@@ -427,7 +439,7 @@ pub fn corners() -> Vec<(&'static str, Expand)> {
         }
         let n = y.len() as u32;
         let times = (0..n).map(|k| 10.0 + k as f32).collect();
-        Expand::new(record(lo, hi), i, (100..100 + n).collect(), times, scale, params, 3.0)
+        Expand::new(record_of(lo, hi), i, (100..100 + n).collect(), times, scale, params, 3.0)
     };
     let plain = RtExpandParams { bin_pad: 0, rt_pad_frames: 0, ..RtExpandParams::default() };
     let hills = [0.0, 5.0, 50.0, 5.0, 0.0, 0.0, 5.0, 50.0, 5.0, 0.0, 0.0, 0.0];
@@ -450,13 +462,95 @@ pub fn corners() -> Vec<(&'static str, Expand)> {
     ]
 }
 
+/// Calls on both sides of a rule, or at a limit and one past it.
+pub fn edges() -> Vec<(&'static str, Expand)> {
+    let scale = TofScale { tof_min: 0, tof_max: 9, tof_step: 1, num_bins: 10 };
+    let run = |y: &[f32], times: &[f32], list: Vec<u32>, params: RtExpandParams| {
+        let n = y.len() as u32;
+        let index = FrameIndex { starts: (0..=n).collect(), bins: vec![4; y.len()], offsets: (0..=n).collect(), scans: vec![3; y.len()], readings: y.to_vec() };
+        Expand::new(list, index, (100..100 + n).collect(), times.to_vec(), scale, params, 3.0)
+    };
+    let plain = RtExpandParams { bin_pad: 0, rt_pad_frames: 0, min_prom: ThresholdMode::Fixed(0.0), ..RtExpandParams::default() };
+    let even: Vec<f32> = (0..9).map(|k| k as f32).collect();
+    let hill = [5.0, 50.0, 5.0];
+    let whole = |y: &[f32], params| run(y, &even[..y.len()], record_of(100, 99 + y.len() as u32), params);
+    let with = |change: &dyn Fn(&mut Expand)| {
+        let mut c = whole(&hill, plain);
+        change(&mut c);
+        c
+    };
+    let other_scale = |tof_min, tof_max, tof_step, num_bins| with(&|c| c.scale = TofScale { tof_min, tof_max, tof_step, num_bins });
+    let high = RtExpandParams { min_prom: ThresholdMode::Fixed(1000.0), fallback_if_frames_lt: 0, ..plain };
+    let mut edges = vec![
+        ("a window of the least length is searched", whole(&hill, plain)),
+        ("one shorter is not", whole(&hill[..2], plain)),
+        ("no apex: fallback bounds reversed, 7 and 3", whole(&[20.0, 18.0, 21.0, 2.0, 0.0, 0.0, 0.0, 0.0], high)),
+        ("the middle step of an even count is the upper one", run(&hill, &[0.0, 4.0, 5.0], record_of(100, 102), RtExpandParams { smooth_sigma_sec: 4.0, ..plain })),
+        ("a pad to the left alone", run(&[0.0, 5.0, 50.0, 5.0, 0.0], &even[..5], record_of(103, 104), RtExpandParams { rt_pad_frames: 2, ..plain })),
+        ("a pad to the right alone", run(&[0.0, 5.0, 50.0, 5.0, 0.0], &even[..5], record_of(100, 101), RtExpandParams { rt_pad_frames: 2, ..plain })),
+        ("a run of one frame has one place", whole(&[4.0], plain)),
+        ("a word too few", {
+            let mut c = whole(&[4.0], plain);
+            c.rooms[0] -= 1;
+            c
+        }),
+        ("too short, behind others: the fallback's time is of the start", run(&[0.0, 4.0], &even[..2], record_of(101, 101), plain)),
+        ("a higher frame number that is not there", run(&hill, &even[..3], record_of(100, 103), plain)),
+        ("less than a record", with(&|c| c.list.truncate(26))),
+        ("more than a record", with(&|c| c.list.push(0))),
+        ("a weight length too few", with(&|c| (c.lengths, c.weights) = (Vec::new(), Vec::new()))),
+        ("a weight length too many", with(&|c| c.lengths.push(0))),
+        ("a weight too many", with(&|c| c.weights.push(0.0))),
+        ("a weight too few", with(&|c| c.weights.truncate(c.weights.len() - 1))),
+        ("a frame number too few", with(&|c| c.ids.truncate(2))),
+        ("a frame number too many", with(&|c| c.ids.push(103))),
+        ("a time too few", with(&|c| c.times.truncate(2))),
+        ("a time too many", with(&|c| c.times.push(3.0))),
+        ("a reading past the highest", with(&|c| c.index.readings[0] = 4294967808.0)),
+        ("a parameter past its limit", with(&|c| c.params.rt_pad_frames = 65_536)),
+        ("the highest time", run(&hill, &[0.0, 1.0, 1048576.0], record_of(100, 102), plain)),
+        ("one past it", with(&|c| c.times[2] = 1048576.1)),
+        ("the last identities", with(&|c| c.first = u32::MAX)),
+        ("a step of 0", other_scale(0, 9, 0, 10)),
+        ("the greatest step", other_scale(0, 65_536, 65_536, 2)),
+        ("one past it", other_scale(0, 65_537, 65_537, 2)),
+        ("a scan past the highest", with(&|c| c.index.scans[0] = 65_536)),
+        ("the highest end of a scale", other_scale(4_194_303, 4_194_303, 1, 1)),
+        ("one past it", other_scale(4_194_303, 4_194_304, 1, 2)),
+        ("an even count of weights", with(&|c| (c.weights, c.lengths) = (vec![1.0; 2], vec![2]))),
+        ("no weights", with(&|c| (c.weights, c.lengths) = (Vec::new(), vec![0]))),
+        ("a frame number twice", with(&|c| c.ids[2] = 101)),
+        ("times that fall", with(&|c| c.times[2] = 0.99999994)),
+        ("a record that number 9 refuses", with(&|c| c.list[0] = 4_194_304)),
+        ("a scale that disagrees", other_scale(0, 9, 1, 9)),
+        ("a bin past the highest", with(&|c| c.index.bins[0] = 4_194_304)),
+        ("starts that end too low", with(&|c| c.index.starts[3] = 2)),
+    ];
+    // the sums of a trace are held to no limit
+    let sums = |params| {
+        let mut c = whole(&hill, params);
+        let half = 4294967296.0;
+        (c.index.offsets, c.index.scans, c.index.readings) = (vec![0, 1, 3, 4], vec![3; 4], vec![half, half, half, half]);
+        c
+    };
+    edges.push(("sums past the highest reading, searched", sums(plain)));
+    edges.push(("sums past the highest reading, too short", sums(RtExpandParams { fallback_if_frames_lt: 4, ..plain })));
+    // five frames allow two retention peaks
+    let five = |first: u32| Expand { first, ..whole(&[0.0, 5.0, 50.0, 5.0, 0.0], plain) };
+    edges.extend([("the last identities of two", five(u32::MAX - 1)), ("one past them", five(u32::MAX))]);
+    let lent = |k: usize| with(&|c| c.rooms[k] -= 1);
+    edges.extend(["a word of the list", "a count", "raw", "smooth", "order"].into_iter().enumerate().map(|(k, name)| (name, lent(k))));
+    edges
+}
+
 /// Runs of many frames, ways counted.
 pub fn compare(t: &mut Tally, count: u64) {
     let mut r = Rng::new(13);
     let mut ways = Ways([0; 5]);
-    for (_, call) in corners() {
+    for (_, call) in corners().into_iter().chain(edges()) {
         one(t, &call, true, &mut ways);
         one(t, &call, false, &mut ways);
+        t.corners += 2;
     }
     for _ in 0..count {
         let mut c = sample(&mut r);

@@ -1,7 +1,8 @@
 //! Lines of expansion's second call, for one mobility peak and for many: corners first, then seeded ones.
-use crate::expand_level::{corners, sample, spoil, Expand};
+use crate::expand_level::{corners, edges, sample, spoil, Expand};
 use crate::frames_sample::numbers;
 use crate::inputs::Rng;
+use crate::making;
 use crate::records::WORDS;
 use crate::retention_sample::params;
 use crate::run_sample::{floats, print_line};
@@ -28,6 +29,15 @@ fn line(c: &Expand, one: bool) {
     print_line(&w, &c.rooms);
 }
 
+/// Prints what stands on both sides of a rule, or at a limit and one past it.
+pub fn print_edges() {
+    for (what, c) in edges() {
+        println!("# the second call: {what}");
+        line(&c, true);
+        line(&c, false);
+    }
+}
+
 /// Prints the corners, and seeded calls that many times over.
 pub fn print(seed: u64, times: u32) {
     for (what, c) in corners() {
@@ -45,7 +55,7 @@ pub fn print(seed: u64, times: u32) {
         }
         let one = c.list.len() / WORDS == 1 && r.one_in(3);
         // what was changed may be accepted, with another sigma
-        if !fine && c.number(one) == 0 {
+        if !fine && making(|| c.number(one)) == 0 {
             c.weigh();
         }
         line(&c, one);

@@ -9,7 +9,7 @@ use crate::records::sound;
 use crate::stitch_level;
 use crate::stable;
 use crate::tof_level::{disagrees, rust_scale};
-use crate::{bits, Tally};
+use crate::{bits, unturned, Tally};
 use mscore::timstof::frame::{ImsFrame, TimsFrame};
 use rubzolena::*;
 
@@ -109,6 +109,17 @@ impl View {
         let (s, r) = (rust_scale(&self.scale), self.rust_frame());
         let s = stable::utility::TofScale { tof_min: s.tof_min, tof_max: s.tof_max, tof_step: s.tof_step, edges: s.edges, centers: s.centers };
         let v = stable::peak::build_frame_bin_view(r, &s, self.count as usize);
+        part(&v.unique_bins, &v.offsets, &v.scan_idx, &v.intensity, self.base)
+    }
+
+    /// The same, for an input that is made of it.
+    fn part(&self) -> Part {
+        let s = &self.scale;
+        let edges: Vec<f32> = (0..=s.num_bins).map(|i| (s.tof_min + i * s.tof_step) as f32).collect();
+        let centers = edges.windows(2).map(|e| 0.5 * (e[0] + e[1])).collect();
+        let (tof_min, tof_max, tof_step) = (s.tof_min as i32, s.tof_max as i32, s.tof_step as i32);
+        let s = unturned::utility::TofScale { tof_min, tof_max, tof_step, edges, centers };
+        let v = unturned::peak::build_frame_bin_view(self.rust_frame(), &s, self.count as usize);
         part(&v.unique_bins, &v.offsets, &v.scan_idx, &v.intensity, self.base)
     }
 
@@ -299,9 +310,51 @@ pub fn corners() -> Vec<(&'static str, View)> {
     ]
 }
 
+/// Frames at a limit and one past it.
+pub fn edges() -> Vec<(&'static str, View)> {
+    let plain = View::new(&[(0, 1, 1.0), (5, 2, 2.0)], TofScale { tof_min: 0, tof_max: 8, tof_step: 4, num_bins: 3 }, 10, 0);
+    let with = |change: &dyn Fn(&mut View)| {
+        let mut call = plain.clone();
+        change(&mut call);
+        call
+    };
+    let scale = |tof_min, tof_max, tof_step, num_bins| with(&|c| c.scale = TofScale { tof_min, tof_max, tof_step, num_bins });
+    let mut edges = vec![
+        ("a scan too few", with(&|c| c.scans.truncate(1))),
+        ("a scan too many", with(&|c| c.scans.push(0))),
+        ("a reading too few", with(&|c| c.readings.truncate(1))),
+        ("a reading too many", with(&|c| c.readings.push(0.0))),
+        ("the most points", with(&|c| c.base = 16_777_214)),
+        ("one past it", with(&|c| c.base = 16_777_215)),
+        ("the highest reading", with(&|c| c.readings[1] = 4294967296.0)),
+        ("one past it", with(&|c| c.readings[1] = 4294967808.0)),
+        ("a step of 0", scale(0, 8, 0, 3)),
+        ("the greatest step", scale(0, 65_536, 65_536, 2)),
+        ("one past it", scale(0, 65_537, 65_537, 2)),
+        ("the highest count of scans", with(&|c| c.count = 65_535)),
+        ("one past it", with(&|c| c.count = 65_536)),
+        ("the highest TOF", with(&|c| c.tofs[1] = HIGHEST)),
+        ("one past it", with(&|c| c.tofs[1] = HIGHEST + 1)),
+        ("the highest scan", with(&|c| c.scans[1] = 65_535)),
+        ("one past it", with(&|c| c.scans[1] = 65_536)),
+        ("the highest TOF of a scale", scale(HIGHEST, HIGHEST, 1, 1)),
+        ("one past it", scale(0, HIGHEST + 1, 4, 3)),
+        ("a lowest TOF past it", scale(HIGHEST + 1, 8, 4, 3)),
+        ("a scale that disagrees", scale(0, 8, 4, 2)),
+    ];
+    // the Rust's own sort keeps the order of 20, not of these
+    let turned: Vec<(u32, u32, f32)> = (0..21).map(|k| (if k == 0 { 4 } else { 0 }, k, k as f32)).collect();
+    edges.push(("21 points in two bins keep their order", View::new(&turned, plain.scale, 21, 0)));
+    let lent = |k: usize| with(&|c| c.rooms[k] -= 1);
+    let names = ["bins", "offsets", "scans", "readings", "keys", "order", "spare"];
+    edges.extend(names.into_iter().enumerate().map(|(k, name)| (name, lent(k))));
+    edges
+}
+
 fn frames(t: &mut Tally, r: &mut Rng, count: u64) {
-    for (_, call) in corners() {
+    for (_, call) in corners().into_iter().chain(edges()) {
         one(t, &call);
+        t.corners += 1;
     }
     for _ in 0..count {
         let (n, scale) = (size(r), scale(r));
@@ -316,6 +369,17 @@ fn frames(t: &mut Tally, r: &mut Rng, count: u64) {
 }
 
 // ---- a run of frames
+
+/// Adds the Rust's part of a frame to an index.
+fn join(index: &mut FrameIndex, c: &View) {
+    let [bins, offsets, scans, readings] = c.part();
+    let points = index.scans.len() as u32;
+    index.bins.extend(bins);
+    index.offsets.extend(offsets[1..].iter().map(|o| o + points));
+    index.scans.extend(scans);
+    index.readings.extend(readings.iter().map(|w| f32::from_bits(*w)));
+    index.starts.push(index.bins.len() as u32);
+}
 
 /// Joins frames with the port, one after another, and compares the index with the Rust's frames; some frames are refused on the way.
 fn run(t: &mut Tally, r: &mut Rng) {
@@ -332,13 +396,7 @@ fn run(t: &mut Tally, r: &mut Rng) {
         let (number, pushed) = (call.number(), index.push(call.frame(), call.scale, call.count));
         t.same("run: number of a frame", &(n, call.scale, call.count), pushed.err().unwrap_or(0), number);
         if number == 0 {
-            let [bins, offsets, scans, readings] = call.stable();
-            let points = expected.scans.len() as u32;
-            expected.bins.extend(bins);
-            expected.offsets.extend(offsets[1..].iter().map(|o| o + points));
-            expected.scans.extend(scans);
-            expected.readings.extend(readings.iter().map(|w| f32::from_bits(*w)));
-            expected.starts.push(expected.bins.len() as u32);
+            join(&mut expected, &call);
         }
     }
     t.same("run: index", &(scale, frames), &index, &expected);
@@ -587,14 +645,14 @@ fn any_index(r: &mut Rng) -> FrameIndex {
     i
 }
 
-/// An index that the port built of frames, and their scale.
+/// An index of frames, and their scale. The port's is compared with it in `run`.
 fn built_index(r: &mut Rng) -> (FrameIndex, TofScale) {
     let scale = scale(r);
     let mut i = FrameIndex::default();
     for _ in 0..r.below(6) {
         let n = size(r).min(150);
         let call = sample(r, n, scale, 0);
-        i.push(call.frame(), scale, call.count).unwrap();
+        join(&mut i, &call);
     }
     (i, scale)
 }
@@ -762,6 +820,99 @@ pub fn sum_corners() -> Vec<(&'static str, Sums)> {
     ]
 }
 
+/// Calls at a limit and one past it.
+pub fn sum_edges() -> Vec<(&'static str, Sums)> {
+    let plain = FrameIndex {
+        starts: vec![0, 2, 2, 3],
+        bins: vec![4, 5, 5],
+        offsets: vec![0, 1, 1, 3],
+        scans: vec![3, 9, 3],
+        readings: vec![1.0, 2.0, 8.0],
+    };
+    let all = (0, 65_535);
+    let of = |asked: Asked| Sums::new(plain.clone(), asked);
+    let index = |change: &dyn Fn(&mut FrameIndex)| {
+        let mut i = plain.clone();
+        change(&mut i);
+        Sums::new(i, Asked::Row(5, 1, all))
+    };
+    let block = |frames, bins, scans| of(Asked::Rt(Block { frames, bins, scans }));
+    let scans = |scans| of(Asked::Im(Block { frames: (0, 2), bins: (4, 5), scans }));
+    let scale = |tof_min, tof_max, tof_step, num_bins| TofScale { tof_min, tof_max, tof_step, num_bins };
+    let s = scale(8, 24, 4, 5);
+    let by = |s, tofs, pad, scans| of(Asked::Bounds(s, tofs, pad, scans));
+    let mut record = vec![0; WORDS];
+    (record[2], record[3], record[15]) = (24, 28, 9);
+    let many = |s, pad| of(Asked::Many(s, record.clone(), pad));
+    let lent = |k: usize| {
+        let mut call = many(s, 0);
+        call.rooms[k] -= 1;
+        call
+    };
+    vec![
+        ("no starts", index(&|i| i.starts.clear())),
+        ("an offset too few", index(&|i| i.offsets.truncate(3))),
+        ("an offset too many", index(&|i| i.offsets.push(3))),
+        ("a reading too few", index(&|i| i.readings.truncate(2))),
+        ("a reading too many", index(&|i| i.readings.push(0.0))),
+        ("the highest reading of an index", index(&|i| i.readings[0] = 4294967296.0)),
+        ("one past it", index(&|i| i.readings[0] = 4294967808.0)),
+        ("the highest scan of an index", index(&|i| i.scans[1] = 65_535)),
+        ("one past it", index(&|i| i.scans[1] = 65_536)),
+        ("the highest bin of an index", index(&|i| i.bins[2] = HIGHEST)),
+        ("one past it", index(&|i| i.bins[2] = HIGHEST + 1)),
+        ("a bin twice in a frame", index(&|i| i.bins[0] = 5)),
+        ("starts that do not run from 0", index(&|i| i.starts[0] = 1)),
+        ("starts that end too low", index(&|i| i.starts[3] = 2)),
+        ("starts that end too high", index(&|i| i.starts[3] = 4)),
+        ("starts that fall", index(&|i| i.starts[1] = 3)),
+        ("offsets that do not run from 0", index(&|i| i.offsets[0] = 1)),
+        ("offsets that end too low", index(&|i| i.offsets[3] = 2)),
+        ("offsets that end too high", index(&|i| i.offsets[3] = 4)),
+        ("offsets that fall", index(&|i| i.offsets[1] = 2)),
+        ("sums past the highest reading", index(&|i| (i.scans[1], i.readings[1], i.readings[0]) = (3, 4294967296.0, 4294967296.0))),
+        ("one frame, one bin, one scan", block((2, 2), (5, 5), (3, 3))),
+        ("frames reversed by one", block((2, 1), (5, 5), (3, 3))),
+        ("a frame past the last", block((2, 3), (5, 5), (3, 3))),
+        ("bins reversed by one", block((2, 2), (6, 5), (3, 3))),
+        ("the highest bin", block((2, 2), (5, HIGHEST), (3, 3))),
+        ("one past it", block((2, 2), (5, HIGHEST + 1), (3, 3))),
+        ("scans reversed by one", block((2, 2), (5, 5), (4, 3))),
+        ("the highest scan", block((2, 2), (5, 5), (3, 65_535))),
+        ("one past it", block((2, 2), (5, 5), (3, 65_536))),
+        ("by scan: the highest scan", scans((65_530, 65_535))),
+        ("one past it", scans((65_530, 65_536))),
+        ("by scan: scans reversed by one", scans((4, 3))),
+        ("the highest row and pad", of(Asked::Row(HIGHEST, 65_535, all))),
+        ("one past it, the row", of(Asked::Row(HIGHEST + 1, 0, all))),
+        ("one past it, the pad", of(Asked::Row(5, 65_536, all))),
+        ("one past it, the lower scan", of(Asked::Row(5, 0, (65_536, 0)))),
+        ("one past it, the higher scan", of(Asked::Row(5, 0, (0, 65_536)))),
+        ("by bounds: the highest TOF and pad", by(s, (4_259_839, 0), 65_535, all)),
+        ("one past it, the lower TOF", by(s, (4_259_840, 0), 0, all)),
+        ("one past it, the higher TOF", by(s, (0, 4_259_840), 0, all)),
+        ("one past it, the pad", by(s, (24, 28), 65_536, all)),
+        ("one past it, the lower scan", by(s, (24, 28), 0, (65_536, 0))),
+        ("one past it, the higher scan", by(s, (24, 28), 0, (0, 65_536))),
+        ("by bounds: a step of 0", by(scale(8, 24, 0, 5), (24, 28), 0, all)),
+        ("by bounds: a step of 1", by(scale(20, 24, 1, 5), (24, 28), 0, all)),
+        ("by bounds: the greatest step", by(scale(0, 65_536, 65_536, 2), (0, 65_536), 5, all)),
+        ("one past it", by(scale(0, 65_537, 65_537, 2), (0, 65_536), 5, all)),
+        ("by bounds: the highest end of a scale", by(scale(HIGHEST, HIGHEST, 1, 1), (0, 1), 5, all)),
+        ("one past it", by(scale(HIGHEST, HIGHEST + 1, 1, 2), (0, 1), 5, all)),
+        ("by bounds: a scale that disagrees", by(scale(8, 24, 4, 4), (24, 28), 0, all)),
+        ("many: a word too many", of(Asked::Many(s, [&record[..], &[0]].concat(), 0))),
+        ("many: the highest pad", many(s, 65_535)),
+        ("one past it", many(s, 65_536)),
+        ("many: a step past the greatest", many(scale(0, 65_537, 65_537, 2), 0)),
+        ("many: an end past the highest", many(scale(HIGHEST, HIGHEST + 1, 1, 2), 0)),
+        ("many: a record that number 9 refuses", of(Asked::Many(s, [&record[..2], &[29, 28], &record[4..]].concat(), 0))),
+        ("many: a place too few", lent(0)),
+        ("many: a word of scratch too few", lent(1)),
+        ("many: a scale that disagrees", many(scale(8, 24, 4, 4), 0)),
+    ]
+}
+
 /// The sizes of number 2, at and past their limits.
 fn sizes(t: &mut Tally) {
     let none = FrameIndex::default();
@@ -787,8 +938,9 @@ pub fn compare(t: &mut Tally, count: u64) {
     if count >= 10_000 {
         sizes(t);
     }
-    for (_, call) in sum_corners() {
+    for (_, call) in sum_corners().into_iter().chain(sum_edges()) {
         summed(t, &call);
+        t.corners += 1;
     }
     for _ in 0..count {
         let mut call = sample_sums(&mut r);

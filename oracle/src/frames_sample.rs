@@ -1,5 +1,5 @@
 //! Lines of frames and of sums over small indexes: corners first, then seeded ones.
-use crate::frames_level::{corners, sample, sample_sums, scale, spoil, spoil_sums, sum_corners, Asked, Sums, View};
+use crate::frames_level::{corners, edges, sample, sample_sums, scale, spoil, spoil_sums, sum_corners, sum_edges, Asked, Sums, View};
 use crate::inputs::Rng;
 use crate::run_sample::{floats, print_line};
 use rubzolena::{TofScale, WORDS};
@@ -49,6 +49,18 @@ fn sums_line(c: &Sums) {
     w.extend([number, count as u32, sums.len() as u32]);
     w.extend(floats(&sums));
     print_line(&w, &c.rooms);
+}
+
+/// Prints what stands on both sides of a rule, or at a limit and one past it.
+pub fn print_edges() {
+    for (what, call) in edges() {
+        println!("# a frame: {what}");
+        frame_line(&call);
+    }
+    for (what, call) in sum_edges() {
+        println!("# sums: {what}");
+        sums_line(&call);
+    }
 }
 
 /// Prints the corners, and seeded calls that many times over.

@@ -218,7 +218,87 @@ pub fn spoil(r: &mut Rng, l: &mut Lists, g: &mut Grid<'static>, room: &mut usize
     }
 }
 
+/// A grid with its lists, and the words and the scratch that are lent.
+pub type Lent = (Lists, Grid<'static>, usize, usize);
+
+/// Grids on both sides of a rule, or at a limit and one past it.
+pub fn edges() -> Vec<(&'static str, Lent)> {
+    let grid = |change: &dyn Fn(&mut Lists, &mut Grid<'static>)| {
+        let scale = rubzolena::TofScale { tof_min: 8, tof_max: 9, tof_step: 1, num_bins: 2 };
+        let mut g = Grid { rows: 2, cols: 5, scale, ..Grid::default() };
+        let data = vec![0.0, 4.0, 0.0, 8.0, 0.0, 0.0, 5.0, 5.0, 0.0, 0.0];
+        let mut l = Lists { data, raw: Vec::new(), scans: (0..5).collect(), mobility: vec![1.0; 5], weights: Vec::new(), smoothing: None };
+        change(&mut l, &mut g);
+        let room = g.rows * most(g.cols) * WORDS;
+        (l, g, room, g.cols)
+    };
+    let lent = |room: usize, space: usize| {
+        let (l, g, ..) = grid(&|_, _| {});
+        (l, g, room, space)
+    };
+    let last = u32::MAX - 3;
+    vec![
+        ("centres 8.5 and 9.5 are rounded up", grid(&|_, _| {})),
+        ("raw data beside smoothed data, which is not looked at", grid(&|l, _| l.raw = vec![0.0, 1.0, 2.0, 1.0, 0.0, 0.0, 0.0, 3.0, 3.0, 0.0])),
+        ("the same with a reading that is out of range there", grid(&|l, _| (l.raw, l.data[0]) = (vec![1.0; 10], -1.0))),
+        ("three columns, smoothed", grid(&|l, g| {
+            (g.cols, l.data, l.scans, l.mobility) = (3, vec![0.0, 4.0, 1.0, 0.0, 5.0, 0.0], vec![0, 1, 2], vec![1.0; 3]);
+            (l.smoothing, l.weights) = (Some((1.0, 2.0)), gaussian(1.0, 2.0));
+        })),
+        ("a reading too few", grid(&|l, _| l.data.truncate(9))),
+        ("a reading too many", grid(&|l, _| l.data.push(0.0))),
+        ("a scan too few", grid(&|l, _| l.scans.truncate(4))),
+        ("a scan too many", grid(&|l, _| l.scans.push(5))),
+        ("a mobility too few", grid(&|l, _| l.mobility.truncate(4))),
+        ("a mobility too many", grid(&|l, _| l.mobility.push(1.0))),
+        ("more rows than bins", grid(&|_, g| (g.scale.tof_max, g.scale.num_bins) = (8, 1))),
+        ("fewer rows than bins", grid(&|_, g| (g.scale.tof_max, g.scale.num_bins) = (10, 3))),
+        ("the most rows", grid(&|l, g| {
+            resize(l, g, 4_194_304, 0);
+            (g.scale.tof_min, g.scale.tof_max) = (0, 4_194_303);
+        })),
+        ("one past it", grid(&|l, g| resize(l, g, 4_194_305, 0))),
+        ("the highest reading", grid(&|l, _| l.data[3] = 4294967296.0)),
+        ("one past it", grid(&|l, _| l.data[3] = 4294967808.0)),
+        ("the highest floor", grid(&|_, g| g.min_prom = 8589934592.0)),
+        ("one past it", grid(&|_, g| g.min_prom = 8589935616.0)),
+        ("the greatest least distance", grid(&|_, g| g.min_distance_scans = 65_535)),
+        ("one past it", grid(&|_, g| g.min_distance_scans = 65_536)),
+        ("the greatest least width", grid(&|_, g| g.min_width_scans = 65_535)),
+        ("one past it", grid(&|_, g| g.min_width_scans = 65_536)),
+        ("the highest mobility", grid(&|l, _| l.mobility[4] = 1048576.0)),
+        ("one past it", grid(&|l, _| l.mobility[4] = 1048576.1)),
+        ("equal frames and frame numbers", grid(&|_, g| (g.rt_bounds, g.frame_id_bounds) = ((3, 3), (4, 4)))),
+        ("reversed frames", grid(&|_, g| g.rt_bounds = (4, 3))),
+        ("reversed frame numbers", grid(&|_, g| g.frame_id_bounds = (4, 3))),
+        ("the highest frame", grid(&|_, g| g.rt_bounds = (3, 16_383))),
+        ("one past it", grid(&|_, g| g.rt_bounds = (3, 16_384))),
+        ("a step of 0", grid(&|_, g| g.scale.tof_step = 0)),
+        ("the greatest step", grid(&|_, g| g.scale = rubzolena::TofScale { tof_min: 0, tof_max: 65_536, tof_step: 65_536, num_bins: 2 })),
+        ("one past it", grid(&|_, g| g.scale = rubzolena::TofScale { tof_min: 0, tof_max: 65_537, tof_step: 65_537, num_bins: 2 })),
+        ("the last identities", grid(&|_, g| g.first = last)),
+        ("one past them", grid(&|_, g| g.first = last + 1)),
+        ("the highest scan", grid(&|l, _| l.scans[4] = 65_535)),
+        ("one past it", grid(&|l, _| l.scans[4] = 65_536)),
+        ("the highest TOF", grid(&|_, g| (g.scale.tof_min, g.scale.tof_max) = (4_194_302, 4_194_303))),
+        ("one past it", grid(&|_, g| (g.scale.tof_min, g.scale.tof_max) = (4_194_303, 4_194_304))),
+        ("the lowest TOF at its limit, on a scale that disagrees", grid(&|_, g| g.scale.tof_min = 4_194_303)),
+        ("one past it", grid(&|_, g| g.scale.tof_min = 4_194_304)),
+        ("equal scans", grid(&|l, _| l.scans[4] = 3)),
+        ("a place too few", lent(3 * WORDS, 5)),
+        ("scratch too short by one", lent(4 * WORDS, 4)),
+        ("a scale that disagrees", grid(&|_, g| g.scale.tof_max = 10)),
+        ("rows of zeros", grid(&|l, _| l.data = vec![0.0; 10])),
+        ("a weight of 1 beside the middle one", grid(&|l, _| (l.weights, l.smoothing) = (vec![1.0; 3], Some((1e6, 1e-6))))),
+        ("an even count of weights", grid(&|l, _| l.weights = vec![1.0; 2])),
+    ]
+}
+
 pub fn compare(t: &mut Tally, count: u64) {
+    for (_, (lists, plain, room, _)) in edges() {
+        same(t, &lists, plain, room);
+        t.corners += 1;
+    }
     let mut r = Rng::new(6);
     for _ in 0..count {
         let (mut lists, mut plain) = if r.one_in(10) { shaped(&mut r) } else { sample(&mut r) };
@@ -226,19 +306,23 @@ pub fn compare(t: &mut Tally, count: u64) {
         while r.one_in(3) {
             spoil(&mut r, &mut lists, &mut plain, &mut room);
         }
-        let g = grid(&lists, plain);
-        let before: Vec<u32> = (0..room).map(|k| k as u32 ^ 0x5555_5555).collect();
-        let (mut out, mut expected) = (before.clone(), before);
-        let port = g.detect_into(&mut out);
-        let refusal = number(&g, room, usize::MAX);
-        let mut answer = Err(refusal);
-        if refusal == 0 {
-            let list = rust(&g, lists.smoothing);
-            answer = Ok(list.len() / WORDS);
-            expected[..list.len()].copy_from_slice(&list);
-        }
-        let shown = (g.rows, g.cols, g.scale, lists.smoothing);
-        t.same("grid: count or number", &shown, port, answer);
-        t.same("grid: list", &shown, out == expected, true);
+        same(t, &lists, plain, room);
     }
+}
+
+fn same(t: &mut Tally, lists: &Lists, plain: Grid<'static>, room: usize) {
+    let g = grid(lists, plain);
+    let before: Vec<u32> = (0..room).map(|k| k as u32 ^ 0x5555_5555).collect();
+    let (mut out, mut expected) = (before.clone(), before);
+    let port = g.detect_into(&mut out);
+    let refusal = number(&g, room, usize::MAX);
+    let mut answer = Err(refusal);
+    if refusal == 0 {
+        let list = rust(&g, lists.smoothing);
+        answer = Ok(list.len() / WORDS);
+        expected[..list.len()].copy_from_slice(&list);
+    }
+    let shown = (g.rows, g.cols, g.scale, lists.smoothing);
+    t.same("grid: count or number", &shown, port, answer);
+    t.same("grid: list", &shown, out == expected, true);
 }

@@ -4,6 +4,14 @@ use crate::inputs::{any, length, place, row, Rng};
 use crate::{bits, probe, Tally};
 
 pub fn compare(t: &mut Tally, count: u64) {
+    for y in bends() {
+        t.same("quad_subsample", &y, bits(probe::quad_subsample(y[0], y[1], y[2])), bits(utility::quad_subsample(y[0], y[1], y[2])));
+        t.corners += 1;
+    }
+    for (y, x0, x1) in areas() {
+        t.same("area at a limit", &(&y, x0, x1), probe::area(&y, x0, x1).map(bits), area(&y, x0, x1).map(bits));
+        t.corners += 1;
+    }
     let mut r = Rng::new(1);
     for _ in 0..count {
         let (x, y, z) = (any(&mut r), any(&mut r), any(&mut r));
@@ -54,6 +62,20 @@ pub fn area(y: &[f32], x0: f32, x1: f32) -> Result<f32, u32> {
         return Err(4);
     }
     Ok(utility::trapezoid_area_fractional(y, x0, x1))
+}
+
+/// Three samples whose bend is 1e-12, or a little more.
+pub fn bends() -> [[f32; 3]; 2] {
+    [[1e-12, 0.0, 0.0], [1.5e-12, 0.0, 0.0]]
+}
+
+/// Rows and ends at the limits of the area's numbers, and one past them.
+pub fn areas() -> Vec<(Vec<f32>, f32, f32)> {
+    let two = vec![1.0, 2.0];
+    let of = |top: f32| vec![1.0, top];
+    let places = [(65535.0, 0.0), (65535.004, 0.0), (0.0, 65535.0), (0.0, 65535.004)].map(|(x0, x1)| (two.clone(), x0, x1));
+    let samples = [(of(4294967296.0), 0.0, 1.0), (of(4294967808.0), 0.0, 1.0), (of(4294967808.0), 65535.004, 1.0)];
+    places.into_iter().chain(samples).collect()
 }
 
 fn same_area(t: &mut Tally, r: &mut Rng) {

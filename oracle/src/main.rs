@@ -5,31 +5,10 @@
 //! `oracle sample [SEED TIMES]` prints the answers that the program `replay_answers` replays; those stored beside it by default.
 //! `oracle sample stitching [SEED TIMES]` prints those of `replay_stitching`, `oracle sample run [SEED TIMES]` those of `replay_run`.
 //! `oracle bench [WORD]` times both sides and prints ratios, of the lines with that word in their name.
-mod bench;
-mod expand_level;
-mod frames_bench;
-mod frames_level;
-mod expand_sample;
-mod frames_sample;
-mod grid_level;
-mod inputs;
-mod leaves;
-mod probe;
-mod records;
-mod retention_bench;
-mod retention_level;
-mod retention_sample;
-mod row_level;
-mod rows;
-mod run_sample;
-mod sample;
-mod shapes;
-mod stitch_bench;
-mod stitch_level;
-mod stitch_sample;
-mod table_level;
-mod tof_level;
-mod words;
+//!
+//! An oracle in which a rule is turned (`oracle/turned`) prints samples alone, and says so in their first line.
+#![cfg_attr(turned, allow(unused))]
+include!(concat!(env!("OUT_DIR"), "/own.rs"));
 
 #[allow(dead_code, unused_imports, unused_variables)]
 mod cluster {
@@ -42,10 +21,44 @@ mod stable {
     include!(concat!(env!("OUT_DIR"), "/stable.rs"));
 }
 
+/// The same, by which inputs are made: no rule of it is turned.
+#[cfg(turned)]
+#[allow(dead_code, unused_imports, unused_variables)]
+mod unturned {
+    include!(concat!(env!("OUT_DIR"), "/unturned.rs"));
+}
+#[cfg(not(turned))]
+use stable as unturned;
+
+#[cfg(turned)]
+thread_local! {
+    static MAKING: std::cell::Cell<bool> = const { std::cell::Cell::new(false) };
+}
+
+/// Which rule of the comparison's own is turned: the line of `turned.list` that TURNED_LINE names, while an answer is made; 0, for none, while
+/// an input is.
+#[cfg(turned)]
+pub fn turned() -> u32 {
+    static LINE: std::sync::LazyLock<u32> = std::sync::LazyLock::new(|| std::env::var("TURNED_LINE").map_or(0, |n| n.parse().expect("a line")));
+    if MAKING.get() { 0 } else { *LINE }
+}
+
+/// Asks a rule of the comparison's own for making an input.
+pub fn making<T>(ask: impl FnOnce() -> T) -> T {
+    #[cfg(turned)]
+    MAKING.set(true);
+    let answer = ask();
+    #[cfg(turned)]
+    MAKING.set(false);
+    answer
+}
+
 /// Counts comparisons, and prints the first differences.
 pub struct Tally {
     pub compared: u64,
     pub differ: u64,
+    /// The corner inputs among them.
+    pub corners: u64,
 }
 
 impl Tally {
@@ -68,6 +81,7 @@ pub fn bits(x: f32) -> u32 {
 fn main() {
     let words: Vec<String> = std::env::args().collect();
     match words.get(1).map(String::as_str) {
+        #[cfg(not(turned))]
         Some("compare") => {
             let count = words.get(2).map_or(1_000_000, |n| n.parse().expect("a count"));
             let word = words.get(3).map_or("", String::as_str);
@@ -83,10 +97,12 @@ fn main() {
                 ("expansion", expand_level::compare, 4),
                 ("table", table_level::compare, 500),
             ];
-            let mut tally = Tally { compared: 0, differ: 0 };
+            let mut tally = Tally { compared: 0, differ: 0, corners: 0 };
             for (name, compare, fewer) in levels {
                 if name.contains(word) {
+                    let (answers, corners) = (tally.compared, tally.corners);
                     compare(&mut tally, count / fewer);
+                    println!("oracle: {name}: {} answers compared, {} corner inputs", tally.compared - answers, tally.corners - corners);
                 }
             }
             println!("oracle: {} answers compared, {} differ", tally.compared, tally.differ);
@@ -101,8 +117,11 @@ fn main() {
                 _ => (0, sample::print),
             };
             let given = |k: usize, other| words.get(k + named).map_or(other, |n| n.parse().expect("a number"));
+            #[cfg(turned)]
+            println!("# NOT TO BE STORED, rules are turned: {}", env!("TURNED"));
             print(given(2, 4), given(3, 1) as u32);
         }
+        #[cfg(not(turned))]
         Some("bench") => bench::run(words.get(2).map_or("", String::as_str)),
         _ => {
             eprintln!("usage: oracle compare [N [WORD]] | oracle sample [stitching | run] [SEED TIMES] | oracle bench [WORD]");

@@ -2,12 +2,17 @@
 //! second time from its text. (The Rust has no words.)
 use crate::inputs::{any, Rng};
 use crate::leaves::in_range;
+use crate::stitch_level::TOPS;
 use crate::{bits, probe, Tally};
 
 pub const WORDS: usize = 27;
 const FLOATS: [usize; 9] = [16, 17, 18, 19, 20, 21, 22, 24, 25];
 
 pub fn compare(t: &mut Tally, count: u64) {
+    for w in edges() {
+        t.same("number 9 at a limit", &w, probe::sound(&w, 0), Some(sound(&w)));
+        t.corners += 1;
+    }
     let mut r = Rng::new(3);
     for _ in 0..count {
         let places = 1 + r.below(4) as usize;
@@ -29,6 +34,41 @@ pub fn compare(t: &mut Tally, count: u64) {
         t.same("record moved", &(k, j), moved, k < places && j < 3);
         t.same("words after a move", &(k, j), out, expected);
     }
+}
+
+/// Records with a field at its limit and one past it, with bounds that are equal and reversed by one, with floats of minus zero.
+pub fn edges() -> Vec<Vec<u32>> {
+    let f = f32::to_bits;
+    let mut sound = vec![5, 7, 6, 8, 3, 9, 100, 200, 7, 1, 4, 3, 5, 40, 39, 42, f(0.5), f(1.0), f(9.0), f(8.0), f(7.0), f(3.5), f(5.5), 2];
+    sound.extend([f(20.0), f(0.25), 77]);
+    let mut edges = Vec::new();
+    let mut with = |words: &[(usize, u32)]| {
+        let mut w = sound.clone();
+        words.iter().for_each(|(k, v)| w[*k] = *v);
+        edges.push(w);
+    };
+    const LOWS: [usize; 6] = [2, 4, 6, 11, 14, 21];
+    for (k, top) in TOPS.into_iter().enumerate().filter(|(_, top)| *top != u32::MAX) {
+        for v in [top, top + 1] {
+            if LOWS.contains(&k) { with(&[(k, v), (k + 1, v)]) } else { with(&[(k, v)]) }
+        }
+    }
+    for k in LOWS {
+        with(&[(k, sound[k + 1])]);
+        with(&[(k, sound[k + 1] + 1)]);
+    }
+    for k in FLOATS {
+        with(&[(k, 1 << 31)]);
+    }
+    for v in [0xbf00_0000, 0xbf00_0001] {
+        with(&[(25, v)]);
+    }
+    // what is missing is not looked at
+    for flags in [0, 2, 4] {
+        with(&[(8, flags), (16, u32::MAX), (17, 3)]);
+        with(&[(8, flags), (16, 3), (17, u32::MAX)]);
+    }
+    edges
 }
 
 /// A sound record, at times with a field or two spoilt.

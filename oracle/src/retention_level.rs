@@ -8,7 +8,7 @@ use crate::leaves::in_range;
 use crate::records::{record, sound, WORDS};
 use crate::row_level::most;
 use crate::stitch_level::peak;
-use crate::{bits, shapes, Tally};
+use crate::{bits, making, shapes, unturned, Tally};
 use rubzolena::{
     expand_window_into, fallback_rt_peak_into, find_rt_peaks_into, robust_noise_mad, RtExpandParams, RtSearch, RtTraceCtx, ThresholdMode,
     LOCAL_WORDS, RT_WORDS, WINDOW_WORDS,
@@ -143,18 +143,21 @@ pub fn noise_call(r: &mut Rng) -> (Vec<f32>, Result<u32, u32>) {
         let at = r.below(n as u64) as usize;
         y[at] = if r.one_in(2) { any(r) } else { r.pick(&[HEIGHT, 8589935616.0, -0.0, f32::NAN]) };
     }
-    let answer = if n > 16_384 {
+    let answer = noise_or_number(&y);
+    (y, answer)
+}
+
+fn noise_or_number(y: &[f32]) -> Result<u32, u32> {
+    if y.len() > 16_384 {
         Err(2)
     } else if !y.iter().all(|v| in_range(*v, HEIGHT)) {
         Err(3)
     } else {
-        Ok(bits(utility::robust_noise_mad(&y)))
-    };
-    (y, answer)
+        Ok(bits(utility::robust_noise_mad(y)))
+    }
 }
 
-fn noise(t: &mut Tally, r: &mut Rng) {
-    let (y, expected) = noise_call(r);
+fn noise(t: &mut Tally, (y, expected): (Vec<f32>, Result<u32, u32>)) {
     let shown = if y.len() < 12 { &y[..] } else { &[] };
     t.same("noise", &(y.len(), shown), robust_noise_mad(&y).map(bits), expected);
 }
@@ -298,7 +301,7 @@ pub fn sample(r: &mut Rng) -> Search {
         // as the Rust smooths it, raw, or another trace
         0 | 1 => {
             let mut y = raw.clone();
-            utility::smooth_vector_gaussian(&mut y, r.pick(&[0.75, 1.0, 1.3, 3.0]), 3.0);
+            unturned::utility::smooth_vector_gaussian(&mut y, r.pick(&[0.75, 1.0, 1.3, 3.0]), 3.0);
             y
         }
         2 => raw.clone(),
@@ -315,8 +318,7 @@ pub fn sample(r: &mut Rng) -> Search {
 
 /// Sets separation and width about those of the peaks that the trace has without them, and a raw area about a share.
 fn near_share(r: &mut Rng, c: &mut Search) {
-    let bare = RtSearch { min_prom: ThresholdMode::Fixed(0.0), min_sep_sec: 0.0, min_width_sec: 0.0 };
-    let peaks = find_rt_peaks(&c.smoothed, &c.raw, &c.times, rust_mode(bare.min_prom), 0.0, 0.0);
+    let peaks = unturned::peak::find_rt_peaks(&c.smoothed, &c.raw, &c.times, unturned::peak::ThresholdMode::Fixed(0.0), 0.0, 0.0);
     if peaks.is_empty() {
         return;
     }
@@ -381,6 +383,66 @@ pub fn corners() -> Vec<(&'static str, Search)> {
             ..c(&[0.0, 0.5, 0.0, 1.0, 0.0, 0.0, 0.0, 0.0, 0.0], &even, 0.0, 0.0, 0.0)
         }),
     ]
+}
+
+/// Traces on both sides of a rule, or at a limit and one past it.
+pub fn edges() -> Vec<(&'static str, Search)> {
+    let even: Vec<f32> = (0..9).map(|k| k as f32).collect();
+    let asked = |min_prom| RtSearch { min_prom, min_sep_sec: 0.0, min_width_sec: 0.0 };
+    let of = |y: &[f32], mode| Search::new(y.to_vec(), y.to_vec(), even[..y.len()].to_vec(), asked(mode));
+    let free = |y: &[f32]| of(y, ThresholdMode::Fixed(0.0));
+    let with = |change: &dyn Fn(&mut Search)| {
+        let mut c = free(&[0.0, 5.0, 0.0, 9.0, 0.0]);
+        change(&mut c);
+        c
+    };
+    // a fixed threshold is raised to 3 times the noise
+    let (fixed, none) = (ThresholdMode::Fixed, ThresholdMode::AdaptiveNoise(0.0));
+    vec![
+        ("a raw maximum at the threshold, and a prominence at it", of(&[0.0, 4.0, 0.0], fixed(4.0))),
+        ("one past it", of(&[0.0, 4.0, 0.0], fixed(4.0000005))),
+        ("a raw maximum below the threshold, the smoothed one above", Search { raw: vec![0.0, 3.0, 0.0], ..of(&[0.0, 8.0, 0.0], fixed(4.0)) }),
+        ("a plateau counts at its first frame", of(&[0.0, 5.0, 5.0, 0.0], none)),
+        ("a width of 2.5 frames is rounded up", of(&[0.0, 4.0, 4.0, 2.0, 0.0], none)),
+        ("a subframe that is held to 0.5", of(&[16777211.0, 16777216.0, 16777216.0, 0.0], none)),
+        ("the area of the trace has its last segment: no peak", of(&[0.0, 1.0, 0.0, 74.0], none)),
+        ("a share of the trace just met", of(&[0.0, 1.0, 0.0, 73.0], none)),
+        ("just not", of(&[0.0, 1.0, 0.0, 73.00001], none)),
+        ("a share of the best just met", free(&[0.0, 1.0, 0.0, 0.05, 0.0])),
+        ("just not", free(&[0.0, 1.0, 0.0, 0.049999997, 0.0])),
+        ("the best area is raised to 1e-6", free(&[0.0, 4e-8, 0.0])),
+        ("both divisors are raised to 1e-6, not more", free(&[0.0, 1.3e-7, 0.0])),
+        ("raw readings of 0", Search { raw: vec![0.0; 3], ..free(&[0.0, 4.0, 0.0]) }),
+        ("a smoothed reading too many", with(&|c| c.smoothed.push(0.0))),
+        ("a raw reading too few", with(&|c| c.raw.truncate(4))),
+        ("a raw reading too many", with(&|c| c.raw.push(0.0))),
+        ("a time too few", with(&|c| c.times.truncate(4))),
+        ("a time too many", with(&|c| c.times.push(9.0))),
+        ("the highest smoothed reading", with(&|c| c.smoothed[3] = HEIGHT)),
+        ("one past it", with(&|c| c.smoothed[3] = 8589935616.0)),
+        ("the highest raw reading", with(&|c| c.raw[3] = READING)),
+        ("one past it", with(&|c| c.raw[3] = 4294967808.0)),
+        ("the highest fixed threshold", with(&|c| c.asked.min_prom = fixed(HEIGHT))),
+        ("one past it", with(&|c| c.asked.min_prom = fixed(8589935616.0))),
+        ("the highest adaptive threshold", with(&|c| c.asked.min_prom = ThresholdMode::AdaptiveNoise(HEIGHT))),
+        ("one past it", with(&|c| c.asked.min_prom = ThresholdMode::AdaptiveNoise(8589935616.0))),
+        ("the greatest separation", with(&|c| c.asked.min_sep_sec = SECONDS)),
+        ("one past it", with(&|c| c.asked.min_sep_sec = 1048576.1)),
+        ("the greatest width", with(&|c| c.asked.min_width_sec = SECONDS)),
+        ("one past it", with(&|c| c.asked.min_width_sec = 1048576.1)),
+        ("the highest time", with(&|c| c.times[4] = SECONDS)),
+        ("one past it", with(&|c| c.times[4] = 1048576.1)),
+        ("equal times", with(&|c| c.times[4] = 3.0)),
+        ("times that fall", with(&|c| c.times[4] = 2.9999998)),
+        ("a word too few", with(&|c| c.rooms[0] -= 1)),
+        ("a word of scratch too few", with(&|c| c.rooms[1] -= 1)),
+    ]
+}
+
+/// Signals whose middles are of an even count, and samples at the limit and past it, with their noise or the number.
+pub fn noise_edges() -> Vec<(Vec<f32>, Result<u32, u32>)> {
+    let signals = [vec![1.0, 2.0, 4.0, 9.0], vec![1.0, 2.0], vec![1.0, 2.0, 4.0], vec![1.0, HEIGHT, 0.0], vec![1.0, 8589935616.0, 0.0], vec![-0.0]];
+    signals.into_iter().map(|y| (y.clone(), noise_or_number(&y))).collect()
 }
 
 fn traces(t: &mut Tally, r: &mut Rng) {
@@ -491,7 +553,7 @@ pub fn lone(t: &mut Tally, c: &Lone) {
 pub fn sound_record(r: &mut Rng) -> Vec<u32> {
     loop {
         let w = record(r);
-        if sound(&w) || r.one_in(40) {
+        if making(|| sound(&w)) || r.one_in(40) {
             return w;
         }
     }
@@ -532,7 +594,93 @@ pub fn fallback_call(r: &mut Rng) -> Lone {
     c
 }
 
+/// A sound record of those frame numbers.
+pub fn record_of(lo: u32, hi: u32) -> Vec<u32> {
+    let mut w = vec![0; WORDS];
+    (w[0], w[2], w[3], w[6], w[7], w[8], w[9], w[15], w[26]) = (4, 4, 4, lo, hi, 1, 6, 9, 77);
+    w
+}
+
+/// Calls of the fallback at a limit and one past it.
+pub fn lone_edges() -> Vec<(&'static str, Lone)> {
+    let with = |change: &dyn Fn(&mut Lone)| {
+        let (trace, times) = (vec![0.0, 5.0, 9.0, 1.0], vec![0.0, 1.0, 2.0, 3.0]);
+        let mut c = Lone { trace, ids: (5..9).collect(), times, peak: record_of(5, 8), frac: 0.25, first: 3, room: RT_WORDS };
+        change(&mut c);
+        c
+    };
+    vec![
+        ("as many times as readings", with(&|_| {})),
+        ("a time too few", with(&|c| c.times.truncate(3))),
+        ("less than a record", with(&|c| c.peak.truncate(26))),
+        ("more than a record", with(&|c| c.peak.push(0))),
+        ("the highest reading", with(&|c| c.trace[2] = READING)),
+        ("one past it", with(&|c| c.trace[2] = 4294967808.0)),
+        ("a fraction of 1", with(&|c| c.frac = 1.0)),
+        ("one past it", with(&|c| c.frac = 1.0000001)),
+        ("the highest time", with(&|c| c.times[3] = SECONDS)),
+        ("one past it", with(&|c| c.times[3] = 1048576.1)),
+        ("equal times", with(&|c| c.times[3] = 2.0)),
+        ("times that fall", with(&|c| c.times[3] = 1.9999999)),
+        ("a frame number twice", with(&|c| c.ids[3] = 7)),
+        ("a record that number 9 refuses", with(&|c| c.peak[0] = 4_194_304)),
+        ("a word too few", with(&|c| c.room -= 1)),
+        ("equal readings at the left end", with(&|c| c.trace = vec![8.0, 8.0, 9.0, 1.0])),
+        ("equal readings at the right end", with(&|c| c.trace = vec![1.0, 9.0, 8.0, 8.0])),
+        ("readings at the threshold, two on either side", with(&|c| c.trace = vec![2.25, 2.25, 9.0, 2.25])),
+        ("the same to the right", with(&|c| c.trace = vec![2.25, 9.0, 2.25, 2.25])),
+    ]
+}
+
 // ---- the first call
+
+/// First calls at a limit and one past it, and one whose middle step is that of an even count.
+pub fn window_edges() -> Vec<(&'static str, Windowed)> {
+    let with = |change: &dyn Fn(&mut Windowed)| {
+        let params = RtExpandParams { rt_pad_frames: 1, ..RtExpandParams::default() };
+        let times = vec![0.0, 0.25, 0.5, 1.0, 2.0];
+        let mut c = Windowed { peak: record_of(7, 8), ids: (5..10).collect(), times, params, room: WINDOW_WORDS };
+        change(&mut c);
+        c
+    };
+    let p = |change: &dyn Fn(&mut RtExpandParams)| with(&|c| change(&mut c.params));
+    let mut edges = vec![
+        ("the middle step of an even count is the upper one", with(&|c| {
+            (c.peak, c.ids, c.times) = (record_of(5, 7), vec![5, 6, 7], vec![0.0, 4.0, 5.0]);
+            c.params.smooth_sigma_sec = 4.0;
+        })),
+        ("a padded window inside of the run", with(&|_| {})),
+        ("a lower frame number that is not there", with(&|c| c.peak = record_of(4, 8))),
+        ("a higher frame number that is not there", with(&|c| c.peak = record_of(7, 11))),
+        ("two frames have a step", with(&|c| (c.peak, c.params.rt_pad_frames, c.params.smooth_sigma_sec) = (record_of(8, 9), 0, 3.0))),
+        ("one frame", with(&|c| (c.peak, c.params.rt_pad_frames, c.params.smooth_sigma_sec) = (record_of(8, 8), 0, 3.0))),
+        ("equal times", with(&|c| (c.times, c.params.smooth_sigma_sec) = (vec![1.0; 5], 0.01))),
+        ("a pad past both ends", p(&|p| p.rt_pad_frames = 4)),
+        ("less than a record", with(&|c| c.peak.truncate(26))),
+        ("more than a record", with(&|c| c.peak.push(0))),
+        ("a frame number too few", with(&|c| c.ids.truncate(4))),
+        ("a time too few", with(&|c| c.times.truncate(4))),
+        ("the highest time", with(&|c| c.times[4] = SECONDS)),
+        ("one past it", with(&|c| c.times[4] = 1048576.1)),
+        ("times that fall", with(&|c| c.times[4] = 0.99999994)),
+        ("a frame number twice", with(&|c| c.ids[4] = 8)),
+        ("a record that number 9 refuses", with(&|c| c.peak[0] = 4_194_304)),
+        ("a word too few", with(&|c| c.room -= 1)),
+        ("the greatest seconds", p(&|p| (p.smooth_sigma_sec, p.min_sep_sec, p.min_width_sec) = (SECONDS, SECONDS, SECONDS))),
+        ("one past it, sigma", p(&|p| p.smooth_sigma_sec = 1048576.1)),
+        ("one past it, separation", p(&|p| p.min_sep_sec = 1048576.1)),
+        ("one past it, width", p(&|p| p.min_width_sec = 1048576.1)),
+        ("a fraction of 1", p(&|p| p.fallback_frac_width = 1.0)),
+        ("one past it", p(&|p| p.fallback_frac_width = 1.0000001)),
+    ];
+    let counts = [("the highest counts", 65_535, 65_535, 65_535), ("one past it, bin_pad", 65_536, 0, 0), ("one past it, fallback", 0, 65_536, 0), ("one past it, pad", 0, 0, 65_536)];
+    edges.extend(counts.map(|(what, a, b, c)| (what, p(&|p| (p.bin_pad, p.fallback_if_frames_lt, p.rt_pad_frames) = (a, b, c)))));
+    for (fixed, adaptive, v) in [("the highest thresholds, fixed", "adaptive", HEIGHT), ("one past it, fixed", "one past it, adaptive", 8589935616.0)] {
+        edges.push((fixed, p(&|p| p.min_prom = ThresholdMode::Fixed(v))));
+        edges.push((adaptive, p(&|p| p.min_prom = ThresholdMode::AdaptiveNoise(v))));
+    }
+    edges
+}
 
 /// Parameters of expansion for a run with that time axis.
 pub fn params(r: &mut Rng, times: &[f32], y: &[f32]) -> RtExpandParams {
@@ -587,12 +735,17 @@ pub fn frame_bounds(r: &mut Rng, ids: &[u32]) -> (u32, u32) {
 
 /// The window and the sigma that the Rust forms: those of its `expand_im_peak_along_rt`, whose steps before the trace are these.
 pub fn window(p: &ImPeak1D, ids: &[u32], times: &[f32], e: &RtExpandParams) -> Option<(usize, usize, f32)> {
+    window_by(p, ids, times, e, rust::within::effective_dt)
+}
+
+/// The same with that time step of an axis.
+fn window_by(p: &ImPeak1D, ids: &[u32], times: &[f32], e: &RtExpandParams, step: fn(&[f32]) -> f32) -> Option<(usize, usize, f32)> {
     let n = ids.len();
     let lo = ids.binary_search(&p.frame_id_bounds.0).ok()?;
     let hi = ids.binary_search(&p.frame_id_bounds.1).ok()?;
     let pad = (e.rt_pad_frames as usize).min(n - 1);
     let (lo, hi) = (lo.saturating_sub(pad), (hi + pad).min(n - 1));
-    let dt = rust::within::effective_dt(&times[lo..=hi]);
+    let dt = step(&times[lo..=hi]);
     Some((lo, hi, (e.smooth_sigma_sec / dt).max(0.75)))
 }
 
@@ -629,6 +782,12 @@ impl Windowed {
     pub fn rust(&self) -> Option<[u32; WINDOW_WORDS]> {
         let found = window(&peak(&self.peak), &self.ids, &self.times, &self.params);
         found.map(|(lo, hi, sigma)| [lo as u32, hi as u32, bits(sigma)])
+    }
+
+    /// The sigma, 0 where there is no window or where the call is refused. An input is made of it.
+    pub fn sigma(&self) -> f32 {
+        let found = || window_by(&peak(&self.peak), &self.ids, &self.times, &self.params, unturned::peak::within::effective_dt);
+        making(|| if self.number() == 0 { found().map_or(0.0, |w| w.2) } else { 0.0 })
     }
 }
 
@@ -676,15 +835,28 @@ fn windowed(t: &mut Tally, c: &Windowed) {
 pub fn compare(t: &mut Tally, count: u64) {
     let mut r = Rng::new(12);
     defaults(t);
-    for (_, call) in corners() {
+    for (_, call) in corners().into_iter().chain(edges()) {
         search(t, &call);
+        t.corners += 1;
+    }
+    for call in noise_edges() {
+        noise(t, call);
+        t.corners += 1;
+    }
+    for (_, call) in lone_edges() {
+        lone(t, &call);
+        t.corners += 1;
+    }
+    for (_, call) in window_edges() {
+        windowed(t, &call);
+        t.corners += 1;
     }
     for _ in 0..count {
         traces(t, &mut r);
         lone(t, &fallback_call(&mut r));
         windowed(t, &call_window(&mut r));
         if r.one_in(2) {
-            noise(t, &mut r);
+            noise(t, noise_call(&mut r));
         }
     }
 }

@@ -1,6 +1,8 @@
 //! Lines of lone traces, of the fallback and of expansion's first call: corners first, then seeded ones.
 use crate::inputs::Rng;
-use crate::retention_level::{call_window, corners, fallback_call, noise_call, sample, spoil, Lone, Search, Windowed};
+use crate::retention_level::{
+    call_window, corners, edges, fallback_call, lone_edges, noise_call, noise_edges, sample, spoil, window_edges, Lone, Search, Windowed,
+};
 use crate::bits;
 use crate::run_sample::{floats, print_line};
 use rubzolena::{RtExpandParams, ThresholdMode};
@@ -58,6 +60,26 @@ fn window_line(c: &Windowed) {
     w.extend([number, found.is_some() as u32]);
     w.extend(found.into_iter().flatten());
     print_line(&w, &[c.room]);
+}
+
+/// Prints what stands on both sides of a rule, or at a limit and one past it.
+pub fn print_edges() {
+    println!("# noise: middles of an even count, a sample at the limit and one past it");
+    for (signal, answer) in noise_edges() {
+        noise_line(&signal, answer);
+    }
+    for (what, c) in edges() {
+        println!("# a trace: {what}");
+        search_line(&c);
+    }
+    for (what, c) in lone_edges() {
+        println!("# the fallback: {what}");
+        lone_line(&c);
+    }
+    for (what, c) in window_edges() {
+        println!("# the first call: {what}");
+        window_line(&c);
+    }
 }
 
 /// Prints the corners, and seeded calls that many times over.

@@ -5,7 +5,7 @@ use crate::cluster::utility::{find_im_peaks_row, smooth_vector_gaussian};
 use crate::inputs::{any, length, limit, row, Rng};
 use crate::leaves::in_range;
 use crate::rows::unfiltered;
-use crate::{bits, probe, shapes, words, Tally};
+use crate::{bits, probe, shapes, unturned, words, Tally};
 
 pub const WORDS: usize = 27;
 
@@ -157,7 +157,7 @@ pub fn sample(r: &mut Rng) -> Row {
     let mut smoothed = raw.clone();
     if r.one_in(2) {
         let (s, t) = sigma(r);
-        smooth_vector_gaussian(&mut smoothed, s, t);
+        unturned::utility::smooth_vector_gaussian(&mut smoothed, s, t);
     }
     around(r, smoothed, raw)
 }
@@ -233,8 +233,90 @@ pub fn spoil(r: &mut Rng, row: &mut Row) {
     }
 }
 
+/// Rows on both sides of a rule, or at a limit and one past it.
+pub fn edges() -> Vec<(&'static str, Row)> {
+    let row = |change: &dyn Fn(&mut Row)| {
+        let mut row = case(vec![0.0, 4.0, 0.0, 8.0, 0.0], 0.0, 0);
+        row.mobility = vec![1.0; 5];
+        change(&mut row);
+        row
+    };
+    vec![
+        ("a raw maximum at the floor, and above it", row(&|w| w.min_prom = 8.0)),
+        ("the same one past it", row(&|w| w.min_prom = 8.000001)),
+        ("a raw maximum below the floor, the smoothed one above", row(&|w| (w.raw, w.min_prom) = (vec![3.0; 5], 4.0))),
+        ("a smoothed row that is longer", row(&|w| w.smoothed.push(0.0))),
+        ("a raw row that is shorter", row(&|w| w.raw.truncate(4))),
+        ("a raw row that is longer", row(&|w| w.raw.push(0.0))),
+        ("a scan axis that is shorter", row(&|w| w.axis.truncate(4))),
+        ("a scan axis that is longer", row(&|w| w.axis.push(9))),
+        ("a mobility table that is shorter", row(&|w| w.mobility.truncate(4))),
+        ("a mobility table that is longer", row(&|w| w.mobility.push(1.0))),
+        ("the highest smoothed reading", row(&|w| w.smoothed[3] = 8589934592.0)),
+        ("one past it", row(&|w| w.smoothed[3] = 8589935616.0)),
+        ("the highest raw reading", row(&|w| w.raw[3] = 4294967296.0)),
+        ("one past it", row(&|w| w.raw[3] = 4294967808.0)),
+        ("the highest floor", row(&|w| w.min_prom = 8589934592.0)),
+        ("one past it", row(&|w| w.min_prom = 8589935616.0)),
+        ("the greatest least distance", row(&|w| w.min_distance = 65_535)),
+        ("one past it", row(&|w| w.min_distance = 65_536)),
+        ("the greatest least width", row(&|w| w.min_width = 65_535)),
+        ("one past it", row(&|w| w.min_width = 65_536)),
+        ("the highest mobility", row(&|w| w.mobility[3] = 1048576.0)),
+        ("one past it", row(&|w| w.mobility[4] = 1048576.1)),
+        ("equal frames and frame numbers", row(&|w| w.bounds = [5, 5, 6, 6])),
+        ("reversed frames", row(&|w| w.bounds = [6, 5, 6, 6])),
+        ("reversed frame numbers", row(&|w| w.bounds = [5, 5, 7, 6])),
+        ("the highest frame", row(&|w| w.bounds[1] = 16_383)),
+        ("one past it", row(&|w| w.bounds[1] = 16_384)),
+        ("the highest TOF row, centre and bounds", row(&|w| w.place = [4_194_303, 4_259_839, 4_259_839, 4_259_839])),
+        ("one past it, the row", row(&|w| w.place[0] = 4_194_304)),
+        ("one past it, the centre", row(&|w| w.place[1] = 4_259_840)),
+        ("one past it, the higher bound", row(&|w| w.place[3] = 4_259_840)),
+        ("the last identities", row(&|w| w.first = u32::MAX - 1)),
+        ("one past them", row(&|w| w.first = u32::MAX)),
+        ("the highest scan", row(&|w| w.axis[4] = 65_535)),
+        ("one past it", row(&|w| w.axis[4] = 65_536)),
+        ("equal scans", row(&|w| w.axis[3] = 2)),
+        ("a place too few", row(&|w| w.room -= WORDS)),
+    ]
+}
+
+/// Rows to smooth, at a limit and one past it: the row, weights, the sigma and the truncation that make them, and scratch.
+pub fn smoothing_edges() -> Vec<(Vec<f32>, Vec<f32>, f32, f32, usize)> {
+    let (s, k) = (1.0, 2.0);
+    let five = gaussian(s, k);
+    let with = |at: usize, w: f32| {
+        let mut weights = five.clone();
+        weights[at] = w;
+        weights
+    };
+    let row = |top: f32| vec![1.0, top, 3.0];
+    vec![
+        (row(4294967296.0), five.clone(), s, k, 3),
+        (row(4294967808.0), five.clone(), s, k, 3),
+        (row(2.0), five.clone(), s, k, 2),
+        (row(2.0), five[..4].to_vec(), s, k, 3),
+        (row(2.0), [&five[..], &five[..1]].concat(), s, k, 3),
+        (row(2.0), vec![1.0; 3], 1e6, 1e-6, 3),
+        (row(2.0), with(0, 1.0000001), s, k, 3),
+        (row(2.0), with(2, 0.99999994), s, k, 3),
+        (row(2.0), Vec::new(), s, k, 3),
+        (row(2.0), [1.0, 0.5, 0.5, 0.5].to_vec(), s, k, 3),
+        (row(2.0), [0.5, 0.5, 1.0, 0.5].to_vec(), s, k, 3),
+    ]
+}
+
 pub fn compare(t: &mut Tally, count: u64) {
     let mut r = Rng::new(5);
+    for (_, row) in edges() {
+        same_row(t, &mut Rng::new(0), &row);
+        t.corners += 1;
+    }
+    for (v, weights, s, k, scratch) in smoothing_edges() {
+        same_smoothed(t, v, weights, s, k, vec![0.5; scratch]);
+        t.corners += 1;
+    }
     for _ in 0..count {
         let mut row = if r.one_in(20) { shaped(&mut r) } else { sample(&mut r) };
         while r.one_in(3) {
@@ -283,6 +365,12 @@ fn same_smoothing(t: &mut Tally, r: &mut Rng) {
             _ => {}
         }
     }
+    same_smoothed(t, v, weights, s, k, scratch);
+}
+
+/// Compares a row that is smoothed by weights, which sigma and truncation make, or others.
+fn same_smoothed(t: &mut Tally, mut v: Vec<f32>, weights: Vec<f32>, s: f32, k: f32, mut scratch: Vec<f32>) {
+    let n = v.len();
     let number = smooth_number(&v, &weights, scratch.len());
     let (mut port_v, mut port_scratch) = (v.clone(), scratch.clone());
     let port = probe::smooth_vector_gaussian(&mut port_v, &weights, &mut port_scratch);

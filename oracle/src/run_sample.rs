@@ -30,10 +30,12 @@ const HEAD: &str = "\
 /// The words of a line, and those that are lent, at most.
 const MOST: usize = 1_000;
 
-/// Prints a line, unless it is too long.
+/// Prints a line, unless it is too long. Where a rule is turned every line has its place; `-` marks those that are not stored.
 pub fn print_line(w: &[u32], rooms: &[usize]) {
     if w.len() <= MOST && rooms.iter().all(|n| *n <= MOST) {
         println!("{}", hexadecimal(w));
+    } else if cfg!(turned) {
+        println!("- {}", hexadecimal(w));
     }
 }
 
@@ -46,4 +48,7 @@ pub fn print(seed: u64, times: u32) {
     frames_sample::print(seed, times);
     retention_sample::print(seed, times);
     expand_sample::print(seed, times);
+    frames_sample::print_edges();
+    retention_sample::print_edges();
+    expand_sample::print_edges();
 }

@@ -1,6 +1,6 @@
 //! The answers that the program `replay_answers` replays: document 01's corners first, then seeded inputs.
 use crate::inputs::{any, length, place, row, Rng};
-use crate::leaves::area;
+use crate::leaves::{self, area};
 use crate::rows::unfiltered;
 use crate::tof_level::{self, Asked};
 use crate::words::hexadecimal;
@@ -32,6 +32,13 @@ const HEAD: &str = "\
 
 fn line(function: u32, words: &[u32]) {
     println!("{function:x} {}", hexadecimal(words));
+}
+
+/// Where a rule is turned every line has its place, that of one that is not there too.
+fn absent(lines: u32) {
+    for _ in 0..if cfg!(turned) { lines } else { 0 } {
+        println!("-");
+    }
 }
 
 /// Prints the corners, and seeded inputs of every kind that many times over.
@@ -153,6 +160,40 @@ pub fn print(seed: u64, times: u32) {
             grid_line(&lists, plain, plain.rows * row_level::most(plain.cols), plain.cols);
         }
     }
+    edges();
+}
+
+/// Prints what stands on both sides of a rule, or at a limit and one past it (turned.list).
+fn edges() {
+    println!("# At a limit and one past it: bends, areas, records.");
+    for y in leaves::bends() {
+        quad(y[0], y[1], y[2]);
+    }
+    for (y, x0, x1) in leaves::areas() {
+        areas(&y, x0, x1);
+    }
+    for w in records::edges() {
+        line(22, &[&w[..], &[records::sound(&w) as u32]].concat());
+    }
+    for (what, row) in row_level::edges() {
+        println!("# A row: {what}.");
+        row_line(&row);
+    }
+    println!("# Smoothing: a sample, scratch and weights at a limit and one past it.");
+    for (v, weights, sigma, truncate, scratch) in row_level::smoothing_edges() {
+        smoothing(&v, &weights, sigma, truncate, scratch);
+    }
+    println!("# TOF scales: at a limit and one past it.");
+    for (tofs, step) in tof_level::build_edges() {
+        build_line(&tofs, step, 2);
+    }
+    for (scale, asked) in tof_level::edges() {
+        scale_line(&scale, asked);
+    }
+    for (what, (lists, plain, room, space)) in grid_level::edges() {
+        println!("# A grid: {what}.");
+        grid_line(&lists, plain, room / records::WORDS, space);
+    }
 }
 
 /// A grid's line, if it is not too long.
@@ -217,12 +258,16 @@ fn row_line(row: &row_level::Row) {
 }
 
 fn smoothing_line(v: &[f32], weights: &[f32], sigma: f32, truncate: f32) {
-    let number = row_level::smooth_number(v, weights, v.len());
+    smoothing(v, weights, sigma, truncate, v.len());
+}
+
+fn smoothing(v: &[f32], weights: &[f32], sigma: f32, truncate: f32, scratch: usize) {
+    let number = row_level::smooth_number(v, weights, scratch);
     let mut after = v.to_vec();
     if number == 0 {
         utility::smooth_vector_gaussian(&mut after, sigma, truncate);
     }
-    let lengths = [v.len() as u32, weights.len() as u32, v.len() as u32];
+    let lengths = [v.len() as u32, weights.len() as u32, scratch as u32];
     line(33, &[&lengths[..], &words(v), &words(weights), &[number], &words(&after)].concat());
 }
 
@@ -247,7 +292,10 @@ fn areas(y: &[f32], x0: f32, x1: f32) {
             line(16, &[&input[..], &[bits(a)]].concat());
             line(17, &[&input[..], &[0]].concat());
         }
-        Err(n) => line(17, &[&input[..], &[n]].concat()),
+        Err(n) => {
+            absent(1);
+            line(17, &[&input[..], &[n]].concat());
+        }
     }
 }
 
@@ -261,6 +309,8 @@ fn apexes(y: &[f32]) {
             line(19, &[&input[..], &[bits(p.prominence)]].concat());
             line(20, &[&input[..], &[bits(p.left_x)]].concat());
             line(21, &[&input[..], &[bits(p.right_x)]].concat());
+        } else {
+            absent(3);
         }
     }
 }

@@ -345,7 +345,7 @@ pub fn sample(r: &mut Rng, n: usize) -> Call {
 }
 
 /// The highest value of each word.
-const TOPS: [u32; WORDS] = [
+pub const TOPS: [u32; WORDS] = [
     4_194_303, 4_259_839, 4_259_839, 4_259_839, 16_383, 16_383, u32::MAX, u32::MAX, 7, u32::MAX, 16_383, 16_383, 16_383, 65_535,
     65_535, 65_535, 0x4980_0000, 0x4980_0000, 0x5000_0000, 0x5000_0000, 0x5000_0000, 0x477f_ff00, 0x477f_ff00, 65_536, 0x5880_0000,
     0x3f00_0000, u32::MAX,
@@ -453,9 +453,76 @@ pub fn corners() -> Vec<(&'static str, Call)> {
     ]
 }
 
+/// Calls on both sides of a rule, or at a limit and one past it.
+pub fn edges() -> Vec<(&'static str, Call)> {
+    let near = StitchParams { max_scan_delta: 100, max_tof_row_delta: 100, ..StitchParams::default() };
+    let peak = |id: u32, words: &[(usize, u32)]| {
+        let mut w = vec![0; WORDS];
+        (w[15], w[24], w[26]) = (9, 1f32.to_bits(), id);
+        words.iter().for_each(|(k, v)| w[*k] = *v);
+        w
+    };
+    let two = |a: &[(usize, u32)], b: &[(usize, u32)], change: &dyn Fn(&mut StitchParams)| {
+        let mut params = near;
+        change(&mut params);
+        Call::new([peak(1, a), peak(2, b)].concat(), params)
+    };
+    let plain = || two(&[], &[], &|_| {});
+    let count = |change: &dyn Fn(&mut StitchParams)| two(&[], &[], change);
+    let inside = |a: [u32; 3], b: [u32; 3]| {
+        let words = |[left, apex, right]: [u32; 3]| [(14, left), (13, apex), (15, right)];
+        two(&words(a), &words(b), &|p| p.require_mutual_apex_inside = true)
+    };
+    let lent = |k: usize| {
+        let mut call = plain();
+        call.rooms[k] -= 1;
+        call
+    };
+    let mut edges = vec![
+        ("an apex to the left of the other peak", inside([0, 3, 10], [5, 6, 12])),
+        ("an apex to the right of the other peak", inside([0, 3, 5], [0, 7, 10])),
+        ("apexes at both ends of what overlaps", inside([0, 5, 9], [5, 9, 12])),
+        ("the same, the other way round", inside([5, 9, 12], [0, 5, 9])),
+        ("absolute spans that share one scan", inside([0, 5, 5], [5, 5, 9])),
+        ("a merged scan of 2.5 is rounded up", two(&[(10, 2)], &[(10, 3)], &|_| {})),
+        (
+            "equal in all keys of the second pass but the identity, and the other way round after the first",
+            Call::new(
+                [peak(8, &[(0, 2)]), peak(9, &[(10, 1), (24, 3f32.to_bits())]), peak(3, &[(0, 1), (10, 1), (13, 50)])].concat(),
+                StitchParams { max_scan_delta: 10, max_tof_row_delta: 2, ..near },
+            ),
+        ),
+        (
+            "rows 0, 2 and 4 in the second pass: neighbours match, the span of all does not",
+            Call::new(
+                [peak(1, &[]), peak(2, &[(0, 2), (10, 1)]), peak(3, &[(0, 4), (10, 2)])].concat(),
+                StitchParams { max_scan_delta: 1, max_tof_row_delta: 2, ..near },
+            ),
+        ),
+        ("a word too many", Call { list: [plain().list, vec![0]].concat(), ..plain() }),
+        ("an identity twice", Call::new([peak(1, &[]), peak(1, &[])].concat(), near)),
+        ("a record that number 9 refuses", two(&[(0, 4_194_304)], &[], &|_| {})),
+        ("the highest min_overlap_frames", count(&|p| p.min_overlap_frames = 65_535)),
+        ("one past it", count(&|p| p.min_overlap_frames = 65_536)),
+        ("the highest max_scan_delta", count(&|p| p.max_scan_delta = 65_535)),
+        ("one past it", count(&|p| p.max_scan_delta = 65_536)),
+        ("the highest max_tof_row_delta", count(&|p| p.max_tof_row_delta = 65_535)),
+        ("one past it", count(&|p| p.max_tof_row_delta = 65_536)),
+        ("the highest min_im_overlap_scans", count(&|p| p.min_im_overlap_scans = 65_535)),
+        ("one past it", count(&|p| p.min_im_overlap_scans = 65_536)),
+        ("a share of frames of 1", count(&|p| p.jaccard_min = 1.0)),
+        ("one past it", count(&|p| p.jaccard_min = 1.0000001)),
+        ("a share of scans of 1", count(&|p| p.im_jaccard_min = 1.0)),
+        ("one past it", count(&|p| p.im_jaccard_min = 1.0000001)),
+    ];
+    edges.extend(["the list", "owners", "order", "groups", "keys", "merged"].into_iter().enumerate().map(|(k, name)| (name, lent(k))));
+    edges
+}
+
 pub fn compare(t: &mut Tally, count: u64) {
-    for (_, call) in corners() {
+    for (_, call) in corners().into_iter().chain(edges()) {
         one(t, &call);
+        t.corners += 1;
     }
     let mut r = Rng::new(8);
     for turn in 0..count {

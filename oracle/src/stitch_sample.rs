@@ -1,7 +1,7 @@
 //! The answers that the program `replay_stitching` replays: corners first, then seeded lists of up to 12 peaks.
 use crate::inputs::Rng;
 use crate::records::WORDS;
-use crate::stitch_level::{corners, sample, spoil, Call};
+use crate::stitch_level::{corners, edges, sample, spoil, Call};
 use crate::words::hexadecimal;
 use rubzolena::StitchParams;
 
@@ -53,5 +53,9 @@ pub fn print(seed: u64, times: u32) {
         if call.list.len() <= MOST * WORDS + 30 {
             line(&call);
         }
+    }
+    for (what, call) in edges() {
+        println!("# on both sides of a rule, at a limit and one past it: {what}");
+        line(&call);
     }
 }

@@ -118,6 +118,44 @@ pub fn build(tofs: &[u32], step: u32, part: usize) -> [u32; 5] {
     }
 }
 
+/// Scales and what they are asked, on both sides of a rule, or at a limit and one past it.
+pub fn edges() -> Vec<(TofScale, Asked)> {
+    let s = |tof_min, tof_max, tof_step, num_bins| TofScale { tof_min, tof_max, tof_step, num_bins };
+    let (three, top) = (s(0, 8, 4, 3), s(HIGHEST - 1, HIGHEST, 1, 2));
+    vec![
+        (top, Asked::Bin(HIGHEST)),
+        (top, Asked::Bin(HIGHEST + 1)),
+        (top, Asked::Window(HIGHEST + 65_536, HIGHEST)),
+        (top, Asked::Window(HIGHEST + 65_537, HIGHEST)),
+        (s(HIGHEST, HIGHEST + 1, 1, 2), Asked::Center(0)),
+        (three, Asked::Center(2)),
+        (three, Asked::Center(3)),
+        (three, Asked::Bounds(2)),
+        (three, Asked::Bounds(3)),
+        (three, Asked::CenterAt(4_194_304.0)),
+        (three, Asked::CenterAt(4_194_304.5)),
+        (three, Asked::CenterAt(0.75)),
+        (three, Asked::Window(3, 4)),
+        (three, Asked::Window(8, 4)),
+        (three, Asked::Window(0, 3)),
+        (s(0, 65_536, 65_536, 2), Asked::Bounds(1)),
+        (s(0, 65_537, 65_537, 2), Asked::Bounds(1)),
+        (s(0, 8, 0, 3), Asked::Bounds(1)),
+        (s(1, 8, 4, 2), Asked::Center(0)),
+        (s(0, 9, 4, 3), Asked::Center(0)),
+        (s(8, 8, 4, 1), Asked::Center(0)),
+        (s(8, 4, 4, 1), Asked::Center(0)),
+        (s(0, 8, 4, 2), Asked::Center(0)),
+        (s(0, 8, 4, 4), Asked::Center(0)),
+    ]
+}
+
+/// TOF values and steps at a limit and one past it.
+pub fn build_edges() -> [(Vec<u32>, u32); 7] {
+    let high = vec![HIGHEST - 1, HIGHEST];
+    [(high, 1), (vec![HIGHEST + 1, 0], 1), (vec![1, 65_537], 65_536), (vec![1, 65_537], 65_537), (vec![1, 2], 0), (vec![5, 4, 4], 4), (vec![3, 9], 4)]
+}
+
 fn step(r: &mut Rng) -> u32 {
     r.pick(&[1, 1, 2, 3, 4, 7, 100, 65_535, 65_536])
 }
