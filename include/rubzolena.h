@@ -15,8 +15,16 @@
  *     another;
  *   - while a function runs nobody else writes to any of its lists, nor reads from those that are written.
  *
- * The functions keep nothing, allocate nothing and need less than 1 MiB of stack (some 0.5 MiB for rows of more than 1,024
- * columns, traces of more than 1,024 frames). They may be called from several threads at once, each with written lists of its own. */
+ * The functions keep nothing and allocate nothing. They may be called from several threads at once, each with written lists of its own.
+ *
+ * The stack that they take, at most:
+ *
+ *   rubzolena_stitch_im_peaks, more than 1,024 peaks whose identities do not rise from record to record    800 KiB
+ *   rubzolena_detect_im_peaks, rows of more than 1,024 columns                                             512 KiB
+ *   rubzolena_expand_im_peak and rubzolena_expand_many_im_peaks, runs of more than 1,024 frames            448 KiB
+ *   rubzolena_find_rt_peaks, traces of more than 4,096 frames                                              368 KiB
+ *   rubzolena_find_rt_peaks, traces of 1,025 to 4,096 frames                                                96 KiB
+ *   all others, and these on inputs not named above                                                         64 KiB */
 #ifndef RUBZOLENA_H
 #define RUBZOLENA_H
 
@@ -399,8 +407,8 @@ uint64_t rubzolena_expand_window(
 /* The second call: the retention peaks of a mobility peak. Its readings are summed frame by frame over its window (bins of tof_lo to tof_hi
  * with bin_pad more on either side, scans left_abs to right_abs), smoothed and searched. Where no peak is listed, or the window has fewer
  * frames than fallback_if_frames_lt, the fallback answers, with times from the start of the run (docs/DIFFERENCES.md). Where there is
- * no window, or no reading above 0 in it, there is none. f is the count of frames of the run, m the greater of 1 and (f - 1) / 2, divided
- * without a rest.
+ * no window, or no reading above 0 in it, there is none. f is the count of frames of the run; m is the greater of 1 and (f - 1) / 2, divided
+ * without a rest, and 1 where f is 0 (in C, size_t f - 1 would wrap round there).
  *
  * peak             the record of the mobility peak (1), with every field in its range, as for stitching (9)
  * starts .. readings   the index (1, 2, 3, 5, 23), as for marginals
