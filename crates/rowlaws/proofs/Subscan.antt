@@ -45,17 +45,17 @@ div-number (fin s m e) (fin t zero d) n q h = absurd (not-zero d q h)
 div-number (fin s m e) (fin t (suc k) d) n q h = rw (lib.Dec.eqb-suc-zero k) (round_number binary32 _ (m * up e * down d) (suc k * up d * down e))
 
 -- ---- the parabola, through readings from 0 to top units
-abbrev tiny : Float
+abbrev pub tiny : Float
 tiny = of_bits binary32 0x2b8c_bccc
 
-num-tiny : Num tiny
+pub num-tiny : Num tiny
 num-tiny = limit-num 0x2b8c_bccc (lit< tt)
 
-mag-tiny : 0 < mag tiny
+pub mag-tiny : 0 < mag tiny
 unfolding mag one of_bits
 mag-tiny = lit< tt
 
-num-two : Num 𝟐
+pub num-two : Num 𝟐
 num-two = limit-num 0x4000_0000 (lit< tt)
 
 mag-two : mag 𝟐 ≡ 2 * one

@@ -5,7 +5,7 @@ use Prim.Native.Nat.{ℕ, zero, suc, ◌+◌, ◌-◌, ◌*◌, ◌≤◌, ◌<�
 use native.Mathlib.Nat.{sub-le, zero-mul, mul-pos}
 use native.Mathlib.Omega.{arith}
 use borrow.Author.Tests.{ltb-true, ltb-false, lt-ltb}
-use lib.Dec.{T, ltb, eqb, lit<}
+use lib.Dec.{T, ltb, eqb}
 use lib.IntN.{ℤ}
 use lib.Ieee.{Float, nan, inf, fin, binary32, up, down, lt, neg, is_nan, of_bits, round, sum, add, sub, div}
 use lib.Ieee.Fits.{down_pos}
@@ -13,10 +13,11 @@ use lib.Ieee.Scale.{finite}
 use Rattle.numeric.specs.Arith.{◌⊕◌, ◌⊖◌, ◌⊗◌, ◌⊘◌, 𝟎, ½, 𝟐}
 use Rattle.numeric.specs.Numeric.{abs_f, clamp_f, quad_f}
 use Rattle.refusal.proofs.Bools.{clash}
-use Rattle.numeric.proofs.Bounds.{one, mag, Num, rep, value, limit-num, sub-at-most, mul_is}
+use Rattle.numeric.proofs.Bounds.{one, mag, Num, rep, value, sub-at-most, mul_is}
 use Rattle.numeric.proofs.Patterns.{round_number, zero_number}
 use Rattle.rowlaws.proofs.Signs.{sub-turned, mul-turned}
 use Rattle.rowlaws.proofs.Heights.{num-half, half_at_most}
+use Rattle.rowlaws.proofs.Subscan.{tiny, num-tiny, mag-tiny, num-two}
 
 -- ---- finite ones
 pub num-finite : (x : Float) → Num x → T (finite x)
@@ -88,19 +89,6 @@ div-number (fin s m e) (fin t zero d) low f n p q h = clash (lt (fin false 0 d) 
 div-number (fin s m e) (fin t (suc k) d) low f n p q h = rw (lib.Dec.eqb-suc-zero k) (round_number binary32 _ (m * up e * down d) (suc k * up d * down e))
 
 -- ---- the parabola
-abbrev tiny : Float
-tiny = of_bits binary32 0x2b8c_bccc
-
-num-tiny : Num tiny
-num-tiny = limit-num 0x2b8c_bccc (lit< tt)
-
-mag-tiny : 0 < mag tiny
-unfolding mag one of_bits
-mag-tiny = lit< tt
-
-num-two : Num 𝟐
-num-two = limit-num 0x4000_0000 (lit< tt)
-
 module _ (a b c : Float) (A : Num a) (B : Num b) (C : Num c) where
   twice : is_nan (𝟐 ⊗ b) ≡ false
   twice = ap is_nan (mul_is 𝟐 b num-two B) ∙ round_number binary32 false (mag 𝟐 * mag b) (one * one)
