@@ -54,8 +54,8 @@ fn main() {
     }
     let archives = here.join("../target/staticlib");
     println!("cargo:rustc-link-search=native={}", archives.display());
-    println!("cargo:rustc-link-lib=static=probe");
-    println!("cargo:rerun-if-changed={}", archives.join("libprobe.a").display());
+    println!("cargo:rustc-link-lib=static=test_probe");
+    println!("cargo:rerun-if-changed={}", archives.join("libtest_probe.a").display());
 }
 
 /// The text with the sort that keeps the order, for the trees below `stable` and `unturned`.

@@ -19,10 +19,10 @@ NAME = re.compile(r"(?<![A-Za-z0-9_'«])" + CAMEL + r"(?![A-Za-z0-9_«])")
 GENERATED = {"mathlib"}
 # A lemma that would have its function's name gets another first: (file, its name, the new one).
 LEMMAS = [
-    ("crates/rowsearch/proofs/Account.antt", "keep_all", "keep-All"),
-    ("crates/passes/proofs/Account.antt", "owner_at", "owner_at_lem"),
+    ("crates/row_search/proofs/Account.antt", "keep_all", "keep-All"),
+    ("crates/stitch_passes/proofs/Account.antt", "owner_at", "owner_at_lem"),
     ("crates/expand/proofs/AloneLaws.antt", "by_weights", "by_weights_lem"),
-    ("crates/gridlaws/proofs/GridSound.antt", "row_number", "row_number_lem"),
+    ("crates/grid_laws/proofs/GridSound.antt", "row_number", "row_number_lem"),
 ]
 
 

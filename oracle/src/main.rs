@@ -2,8 +2,8 @@
 //!
 //! `oracle compare [N [WORD]]` compares every function on N seeded inputs (a million by default), or those of the level with that
 //! word in its name, and exits with 1 on a difference.
-//! `oracle sample [SEED TIMES]` prints the answers that the program `replay_answers` replays; those stored beside it by default.
-//! `oracle sample stitching [SEED TIMES]` prints those of `replay_stitching`, `oracle sample run [SEED TIMES]` those of `replay_run`.
+//! `oracle sample [SEED TIMES]` prints the answers that the program `test_replay_answers` replays; those stored beside it by default.
+//! `oracle sample stitching [SEED TIMES]` prints those of `test_replay_stitching`, `oracle sample run [SEED TIMES]` those of `test_replay_run`.
 //! `oracle bench [WORD]` times both sides and prints ratios, of the lines with that word in their name.
 //!
 //! An oracle in which a rule is turned (`oracle/turned`) prints samples alone, and says so in their first line.

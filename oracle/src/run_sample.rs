@@ -1,4 +1,4 @@
-//! The answers that the program `replay_run` replays: those of frames and of sums over indexes, of retention traces, of both calls of
+//! The answers that the program `test_replay_run` replays: those of frames and of sums over indexes, of retention traces, of both calls of
 //! expansion.
 use crate::words::hexadecimal;
 use crate::{bits, expand_sample, frames_sample, retention_sample};

@@ -1,4 +1,4 @@
-//! The answers that the program `replay_answers` replays: document 01's corners first, then seeded inputs.
+//! The answers that the program `test_replay_answers` replays: document 01's corners first, then seeded inputs.
 use crate::inputs::{any, length, place, row, Rng};
 use crate::leaves::{self, area};
 use crate::rows::unfiltered;

@@ -1,4 +1,4 @@
-//! The answers that the program `replay_stitching` replays: corners first, then seeded lists of up to 12 peaks.
+//! The answers that the program `test_replay_stitching` replays: corners first, then seeded lists of up to 12 peaks.
 use crate::inputs::Rng;
 use crate::records::WORDS;
 use crate::stitch_level::{corners, edges, sample, spoil, Call};

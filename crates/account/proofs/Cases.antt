@@ -13,25 +13,25 @@ use lib.ListN.{length, get_or, drop}
 use lib.Ieee.{Float}
 use Rattle.refusal.proofs.Bools.{clash}
 use Rattle.numeric.specs.Arith.{index_f}
-use Rattle.record.specs.Record.{size, peak_at}
-use Rattle.gridrows.specs.Grid.{listed_in, count_from, count_to, words_to}
+use Rattle.row_record.specs.Record.{size, peak_at}
+use Rattle.grid_rows.specs.Grid.{listed_in, count_from, count_to, words_to}
 use Rattle.grid.specs.Answer.{number_for, Answered}
-use Rattle.gridlaws.proofs.GridRecords.{count-step, rows-bear}
-use Rattle.passes.specs.Account.{places_of, members_of}
-use Rattle.digits.specs.Sorted.{up_to}
-use Rattle.digits.proofs.SortedLaws.{at-index}
-use Rattle.matching.specs.Cases.{asked}
-use Rattle.passes.specs.Stitching.{stitched}
+use Rattle.grid_laws.proofs.GridRecords.{count-step, rows-bear}
+use Rattle.stitch_passes.specs.Account.{places_of, members_of}
+use Rattle.sort_digits.specs.Sorted.{up_to}
+use Rattle.sort_digits.proofs.SortedLaws.{at-index}
+use Rattle.stitch_matching.specs.Cases.{asked}
+use Rattle.stitch_passes.specs.Stitching.{stitched}
 use Rattle.stitch.specs.StitchNumber.{peaks_in}
 use Rattle.stitch.specs.Answer.{Lent as StitchLists, Answered as StitchAnswered, number_for as number_of}
-use Rattle.stitchlaws.specs.Cases.{list, before, accepted, peaks, two, answered}
-use Rattle.chosen.specs.Times.{near_in_time}
-use Rattle.rtapex.specs.InTime.{apex_time}
-use Rattle.rtrecord.specs.RtRecord.{rt_peak_at}
+use Rattle.stitch_laws.specs.Cases.{list, before, accepted, peaks, two, answered}
+use Rattle.rt_choice.specs.Times.{near_in_time}
+use Rattle.rt_apex.specs.InTime.{apex_time}
+use Rattle.rt_record.specs.RtRecord.{rt_peak_at}
 use Rattle.expand.specs.ExpandCall.{Lent, one_number, peaks_of, OneAnswered}
-use Rattle.expandpeak.specs.Expanded.{searched}
-use Rattle.expandlaws.specs.ExpandAccount.{smooth_over, listed_over, Ordinary, ExpandAccounted}
-use Rattle.expandlaws.proofs.Calls.{one-accounted}
+use Rattle.expand_peak.specs.Expanded.{searched}
+use Rattle.expand_laws.specs.ExpandAccount.{smooth_over, listed_over, Ordinary, ExpandAccounted}
+use Rattle.expand_laws.proofs.Calls.{one-accounted}
 use Rattle.account.specs.Demand3.{qualifying_over, chosen_over, OrdinaryPath, TooClose, ListedFrame}
 use Rattle.account.specs.Cases as case
 use Rattle.account.specs.Cases.{grid, run, params, peak, p, weights, lists, GridCase, StitchCase, RunCase, SomethingToExplain}

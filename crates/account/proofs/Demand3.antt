@@ -6,16 +6,16 @@ use native.Mathlib.Omega.{arith}
 use borrow.Author.Tests.{eq-eqb, eqb-true}
 use lib.Dec.{eqb}
 use lib.ListN.{length}
-use Rattle.digits.specs.Sorted.{up_to}
-use Rattle.digits.proofs.UpTo.{upto-has}
-use Rattle.passes.specs.Account.{owner_at, members_of}
-use Rattle.passes.proofs.Account.{places-has, places-only}
+use Rattle.sort_digits.specs.Sorted.{up_to}
+use Rattle.sort_digits.proofs.UpTo.{upto-has}
+use Rattle.stitch_passes.specs.Account.{owner_at, members_of}
+use Rattle.stitch_passes.proofs.Account.{places-has, places-only}
 use Rattle.stitch.specs.StitchNumber.{peaks_in}
 use Rattle.stitch.specs.Answer.{Lent}
-use Rattle.peaklist.proofs.PeakListLaws.{peaks-length}
+use Rattle.stitch_peaks.proofs.PeakListLaws.{peaks-length}
 use Rattle.stitch.specs.StitchNumber.{count_in}
-use Rattle.stitchlaws.specs.StitchAccount.{Accounted}
-use Rattle.stitchlaws.proofs.StitchAccount.{count-accounts, call-accounts}
+use Rattle.stitch_laws.specs.StitchAccount.{Accounted}
+use Rattle.stitch_laws.proofs.StitchAccount.{count-accounts, call-accounts}
 use Rattle.account.specs.Demand3.{StitchAccounted, StitchingAccounted, StitchCallsAccounted, Demand3}
 use Rattle.account.proofs.Grids.{grids-accounted, grid-calls-accounted}
 use Rattle.account.proofs.Expansion.{one-expanded, one-call-expanded, many-expanded, many-calls-expanded}

@@ -1,4 +1,4 @@
--- The account of expansion, from what expandlaws has of it.
+-- The account of expansion, from what expand_laws has of it.
 use mathlib.Core.Path.{◌≡◌, sym, ap, ◌∙◌, subst}
 use mathlib.Core.List.{List, [], ◌∷◌}
 use mathlib.Core.Logic.{⊎_elim, inl, inr, ◌≢◌}
@@ -6,20 +6,20 @@ use Prim.Native.Nat.{ℕ, zero, suc, ◌+◌, ◌-◌, ◌/◌, ◌%◌, ◌<◌
 use native.Mathlib.Omega.{arith}
 use lib.ListN.{length, get_or}
 use lib.Ieee.{Float}
-use Rattle.record.specs.declared.ImPeak1D.{ImPeak1D}
-use Rattle.digits.proofs.SortedLaws.{at-index}
-use Rattle.chosen.specs.Chosen.{Distinct}
-use Rattle.rtparams.specs.declared.RtExpandParams.{RtExpandParams}
-use Rattle.rtplace.specs.PlacedLaws.{PeakInFrames}
-use Rattle.rtrecord.specs.declared.RtPeak1D.{RtPeak1D}
-use Rattle.rtlaws.proofs.RtAccount.{rt-account}
-use Rattle.expandpeak.specs.Expanded.{Run, floor_of, searched}
+use Rattle.row_record.specs.declared.ImPeak1D.{ImPeak1D}
+use Rattle.sort_digits.proofs.SortedLaws.{at-index}
+use Rattle.rt_choice.specs.Chosen.{Distinct}
+use Rattle.rt_params.specs.declared.RtExpandParams.{RtExpandParams}
+use Rattle.expand_placed.specs.PlacedLaws.{PeakInFrames}
+use Rattle.rt_record.specs.declared.RtPeak1D.{RtPeak1D}
+use Rattle.rt_laws.proofs.RtAccount.{rt-account}
+use Rattle.expand_peak.specs.Expanded.{Run, floor_of, searched}
 use Rattle.expand.specs.ExpandCall.{one_number, OneAnswered, many_number, ManyAnswered}
-use Rattle.expandapi.specs.Expansion.{answer_to, one_count, many_count}
-use Rattle.expandapi.proofs.ExpandWords.{one_told, many-told}
-use Rattle.expandlaws.specs.ExpandAccount.{raw_over, smooth_over, times_over, listed_over, Ordinary, ExpandAccounted, PeakAccounted}
-use Rattle.expandlaws.proofs.ExpandAccount.{index_of}
-use Rattle.expandlaws.proofs.Calls.{one-accounted, many-accounted}
+use Rattle.c_expand.specs.Expansion.{answer_to, one_count, many_count}
+use Rattle.c_expand.proofs.ExpandWords.{one_told, many-told}
+use Rattle.expand_laws.specs.ExpandAccount.{raw_over, smooth_over, times_over, listed_over, Ordinary, ExpandAccounted, PeakAccounted}
+use Rattle.expand_laws.proofs.ExpandAccount.{index_of}
+use Rattle.expand_laws.proofs.Calls.{one-accounted, many-accounted}
 use Rattle.account.specs.Demand3.{Within, OrdinaryPath, RetentionAccounted, ExpansionAccounted, OneExpanded, OneCallExpanded, ManyExpanded, ManyCallsExpanded}
 
 within : (lo hi : ℕ) (r : RtPeak1D) → PeakInFrames lo (hi + 1 - lo) r → Within lo hi r

@@ -10,31 +10,31 @@ use Prim.Native.Nat.{ℕ, suc, ◌+◌, ◌-◌, ◌*◌, ◌/◌, ◌^◌, ◌�
 use native.Mathlib.Omega.{arith}
 use lib.ListN.{length, get_or, take, drop, length-append, length-take, get_or-append}
 use lib.Seq.{take_at}
-use Rattle.record.specs.Record.{size, size_in_bytes, peak_from, peak_at}
-use Rattle.record.specs.declared.ImPeak1D.{ImPeak1D}
-use Rattle.rowsearch.specs.Account.{◌∈◌, Leads, GivesWay, listed, step}
-use Rattle.rowsearch.specs.Qualifying.{kept}
-use Rattle.rowsearch.proofs.Account.{kept-qualify}
-use Rattle.rowsearch.proofs.QualifyingLaws.{qualifying-listed}
-use Rattle.rowlaws.specs.RowRecords.{nth}
-use Rattle.rowlaws.proofs.RowAccount.{row-accounted}
-use Rattle.smoothrow.proofs.Laws.{searched-length}
-use Rattle.digits.proofs.SortedLaws.{at-index}
+use Rattle.row_record.specs.Record.{size, size_in_bytes, peak_from, peak_at}
+use Rattle.row_record.specs.declared.ImPeak1D.{ImPeak1D}
+use Rattle.row_search.specs.Account.{◌∈◌, Leads, GivesWay, listed, step}
+use Rattle.row_search.specs.Qualifying.{kept}
+use Rattle.row_search.proofs.Account.{kept-qualify}
+use Rattle.row_search.proofs.QualifyingLaws.{qualifying-listed}
+use Rattle.row_laws.specs.RowRecords.{nth}
+use Rattle.row_laws.proofs.RowAccount.{row-accounted}
+use Rattle.row_smoothed.proofs.Laws.{searched-length}
+use Rattle.sort_digits.proofs.SortedLaws.{at-index}
 use Rattle.row.specs.Written.{stride}
-use Rattle.gridrows.specs.Grid.{Grid, row_of, searched_of, listed_in, count_to, words_to}
-use Rattle.gridrows.proofs.Laws.{words-length}
+use Rattle.grid_rows.specs.Grid.{Grid, row_of, searched_of, listed_in, count_to, words_to}
+use Rattle.grid_rows.proofs.Laws.{words-length}
 use Rattle.grid.specs.Answer.{number_for}
 use Rattle.grid.proofs.GridNumberLaws.{none-for}
 use Rattle.grid.proofs.Laws.{sizes-held}
-use Rattle.gridlaws.proofs.GridRecords.{count-step, count-rise, rows-bear, all_placed, rows-ascend}
-use Rattle.wordbytes.specs.Bytes.{words_of, bytes_of}
-use Rattle.wordbytes.proofs.BytesLaws.{words-front, bytes-length, words-length as read_length}
-use Rattle.byterows.specs.AsBytes.{as_bytes}
-use Rattle.capi.specs.Entry.{also, entry_checks, entry_number}
-use Rattle.capi.proofs.Laws.{entry_zero}
-use Rattle.entryword.proofs.Words.{below, first_below}
-use Rattle.stitchlaws.proofs.StitchAccount.{which}
-use Rattle.expandlaws.proofs.ExpandAccount.{index_of}
+use Rattle.grid_laws.proofs.GridRecords.{count-step, count-rise, rows-bear, all_placed, rows-ascend}
+use Rattle.grid_word_bytes.specs.Bytes.{words_of, bytes_of}
+use Rattle.grid_word_bytes.proofs.BytesLaws.{words-front, bytes-length, words-length as read_length}
+use Rattle.grid_byte_rows.specs.AsBytes.{as_bytes}
+use Rattle.c_grid_stitch.specs.Entry.{also, entry_checks, entry_number}
+use Rattle.c_grid_stitch.proofs.Laws.{entry_zero}
+use Rattle.c_word.proofs.Words.{below, first_below}
+use Rattle.stitch_laws.proofs.StitchAccount.{which}
+use Rattle.expand_laws.proofs.ExpandAccount.{index_of}
 use Rattle.account.specs.Demand3.{qualifying_in, Listed, Onward, arrived, later, Chain, GridAccounted, GridsAccounted, GridCallsAccounted}
 
 -- ---- the records of the definition

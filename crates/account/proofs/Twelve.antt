@@ -4,25 +4,25 @@ use lib.Ieee.{add, sub, mul, div, neg, lt, le, ne, is_nan, of_int, of_bits, to_b
 use Rattle.refusal.specs.Refusal.{first_of}
 use Rattle.numeric.specs.Numeric.{max_f, min_f, abs_f, clamp_f, lerp_f, quad_f, in_range, all_in_range}
 use Rattle.rounding.specs.Rounding.{floor_f, ceil_f, round_f}
-use Rattle.apex.specs.Apex.{is_candidate, candidates_to, left_of, up_to_higher, least, baseline, prominence, half_height, run_above, part_way, left_crossing, right_crossing}
-use Rattle.area.specs.Area.{height_at, strip, within, head, whole, tail, across, between, area_f}
-use Rattle.spans.specs.Span.{width_of, span_of}
-use Rattle.record.specs.Record.{peak_from, sound, sound_tof, sound_frames, sound_options, sound_scans, sound_shape}
-use Rattle.params.specs.Params.{sound_params, sound_bounds, sound_tof as sound_place, all_up_to, rising, rising_from}
-use Rattle.rowsearch.specs.Suppression.{keep, keep_all}
-use Rattle.rowsearch.specs.Qualifying.{highest_reading, left_x, right_x, width, qualifies, that_qualify, qualifying, kept}
+use Rattle.row_apex.specs.Apex.{is_candidate, candidates_to, left_of, up_to_higher, least, baseline, prominence, half_height, run_above, part_way, left_crossing, right_crossing}
+use Rattle.row_area.specs.Area.{height_at, strip, within, head, whole, tail, across, between, area_f}
+use Rattle.row_spans.specs.Span.{width_of, span_of}
+use Rattle.row_record.specs.Record.{peak_from, sound, sound_tof, sound_frames, sound_options, sound_scans, sound_shape}
+use Rattle.row_params.specs.Params.{sound_params, sound_bounds, sound_tof as sound_place, all_up_to, rising, rising_from}
+use Rattle.row_search.specs.Suppression.{keep, keep_all}
+use Rattle.row_search.specs.Qualifying.{highest_reading, left_x, right_x, width, qualifies, that_qualify, qualifying, kept}
 use Rattle.row.specs.Row.{subscan, peak_of, row_words}
 use Rattle.row.specs.RowNumber.{same_lengths, sound_readings, sound_values, sound_axis, row_number}
-use Rattle.digits.specs.Sorted.{up_to}
-use Rattle.tof.specs.Tof.{sound_step, sound_ends, agreeing, scale_number, lowest_tof, highest_tof, scale_of}
-use Rattle.tof.specs.TofAnswers.{build_number, build_answer, bin_answer}
-use Rattle.rtparams.specs.Modes.{effective_f}
-use Rattle.rank.specs.Rank.{counted, first_at, ranked, rank_f}
-use Rattle.noise.specs.Noise.{middle, noise_f, noise_number}
-use Rattle.rttime.specs.Time.{time_between, never_falls, never_falls_from}
-use Rattle.rtrecord.specs.RtRecord.{group_word, rt_peak_of}
-use Rattle.fallback.specs.Fallback.{top_from, sums_from, centroid, time_of, apex_of, bounds_of, fallback_of}
-use Rattle.fallback.specs.FallbackNumber.{fallback_lengths, fallback_sizes, fallback_values, fallback_axes, fallback_number}
+use Rattle.sort_digits.specs.Sorted.{up_to}
+use Rattle.tof_scale.specs.Tof.{sound_step, sound_ends, agreeing, scale_number, lowest_tof, highest_tof, scale_of}
+use Rattle.tof_scale.specs.TofAnswers.{build_number, build_answer, bin_answer}
+use Rattle.rt_params.specs.Modes.{effective_f}
+use Rattle.sort_rank.specs.Rank.{counted, first_at, ranked, rank_f}
+use Rattle.rt_noise.specs.Noise.{middle, noise_f, noise_number}
+use Rattle.rt_time.specs.Time.{time_between, never_falls, never_falls_from}
+use Rattle.rt_record.specs.RtRecord.{group_word, rt_peak_of}
+use Rattle.rt_fallback.specs.Fallback.{top_from, sums_from, centroid, time_of, apex_of, bounds_of, fallback_of}
+use Rattle.rt_fallback.specs.FallbackNumber.{fallback_lengths, fallback_sizes, fallback_values, fallback_axes, fallback_number}
 use Rattle.account.specs.Twelve.{TwelveHold}
 
 pub twelve-hold : TwelveHold

@@ -9,51 +9,51 @@ use Rattle.refusal.specs.Refusal.{first_of}
 use Rattle.numeric.specs.Arith.{index_f, 𝟎, 𝟏, at}
 use Rattle.numeric.specs.Numeric.{max_f, min_f, abs_f, clamp_f, lerp_f, quad_f, in_range, all_in_range}
 use Rattle.rounding.specs.Rounding.{floor_f, round_f}
-use Rattle.smoothing.specs.Smoothing.{tabulate, sum_from, normalised, weighted, met, smoothed_at, smoothed, sound_weights}
-use Rattle.apex.specs.Apex.{is_candidate, candidates_to, left_of, up_to_higher, least, baseline, prominence, half_height, run_above, part_way, left_crossing, right_crossing}
-use Rattle.area.specs.Area.{height_at, strip, within, head, whole, tail, across, between, area_f}
-use Rattle.spans.specs.Span.{width_of}
-use Rattle.record.specs.Record.{size, peak_from, peak_at, sound, sound_tof, sound_frames, sound_options, sound_scans, sound_shape, all_sound}
-use Rattle.record.specs.declared.ImPeak1D.{ImPeak1D}
-use Rattle.params.specs.Params.{sound_params, sound_bounds, all_up_to, rising, rising_from}
+use Rattle.row_smoothing.specs.Smoothing.{tabulate, sum_from, normalised, weighted, met, smoothed_at, smoothed, sound_weights}
+use Rattle.row_apex.specs.Apex.{is_candidate, candidates_to, left_of, up_to_higher, least, baseline, prominence, half_height, run_above, part_way, left_crossing, right_crossing}
+use Rattle.row_area.specs.Area.{height_at, strip, within, head, whole, tail, across, between, area_f}
+use Rattle.row_spans.specs.Span.{width_of}
+use Rattle.row_record.specs.Record.{size, peak_from, peak_at, sound, sound_tof, sound_frames, sound_options, sound_scans, sound_shape, all_sound}
+use Rattle.row_record.specs.declared.ImPeak1D.{ImPeak1D}
+use Rattle.row_params.specs.Params.{sound_params, sound_bounds, all_up_to, rising, rising_from}
 use Rattle.std.specs.Prelude.{None}
-use Rattle.rowsearch.specs.Suppression.{keep, keep_all}
-use Rattle.rowsearch.specs.Qualifying.{highest_reading, left_x, right_x, width, qualifies, that_qualify, qualifying, kept}
-use Rattle.smoothrow.specs.SmoothRow.{searched}
-use Rattle.tof.specs.Tof.{window_bins, sound_step, sound_ends, agreeing}
-use Rattle.gridrows.specs.Grid.{Grid, listed_in}
-use Rattle.gridrows.specs.Steps.{grid_of}
+use Rattle.row_search.specs.Suppression.{keep, keep_all}
+use Rattle.row_search.specs.Qualifying.{highest_reading, left_x, right_x, width, qualifies, that_qualify, qualifying, kept}
+use Rattle.row_smoothed.specs.SmoothRow.{searched}
+use Rattle.tof_scale.specs.Tof.{window_bins, sound_step, sound_ends, agreeing}
+use Rattle.grid_rows.specs.Grid.{Grid, listed_in}
+use Rattle.grid_rows.specs.Steps.{grid_of}
 use Rattle.grid.specs.GridNumber.{grid_number}
-use Rattle.digits.specs.Sorted.{up_to}
-use Rattle.frameindex.specs.IndexNumber.{index_number}
-use Rattle.frameindex.specs.FrameIndex.{climbs_from, climbs_to, frames_rise_from, frames_rise, sound_lists, seen_in}
-use Rattle.framesums.specs.Sums.{add_points, add_bins, add_frame, frame_sums}
-use Rattle.windows.specs.Windows.{bounds_window}
-use Rattle.rank.specs.Rank.{counted, first_at, ranked, rank_f}
-use Rattle.noise.specs.Noise.{middle, noise_f}
-use Rattle.rttime.specs.Time.{time_between, time_at, never_falls, never_falls_from}
-use Rattle.rtparams.specs.Modes.{effective_f, sound_mode}
-use Rattle.rtparams.specs.Expand.{sound_expand}
-use Rattle.rtparams.specs.declared.RtExpandParams.{RtExpandParams}
-use Rattle.rtparams.specs.declared.ThresholdMode.TheVariants.{Fixed}
-use Rattle.rtwindow.specs.FrameWindow.{before, frame_with, widened, between as window_between, padded_window}
-use Rattle.chosen.specs.Chosen.{near_any, choose, choose_all, passing}
-use Rattle.chosen.specs.Ranking.{before as first, inserted_by, ordered_by}
-use Rattle.chosen.specs.Times.{near_in_time}
-use Rattle.rtapex.specs.InTime.{subframe, apex_time, seconds_of, apex_area}
-use Rattle.rtplaces.specs.Shares.{total_area, largest, trace_area, best_area, meets_shares}
-use Rattle.rtsearch.specs.Retention.{is_wide, rt_qualifying, higher_first, earlier_first, chosen_apexes, has_shares, listed_apexes}
-use Rattle.expandtrace.specs.Trace.{trace_over}
-use Rattle.expandpeak.specs.Expanded.{Run, run_of, window_in, floor_of}
-use Rattle.expandnumbers.specs.ExpandNumber.{sum_of, all_weights, sound_values, rising_axes, enough_room}
+use Rattle.sort_digits.specs.Sorted.{up_to}
+use Rattle.frames_index.specs.IndexNumber.{index_number}
+use Rattle.frames_index.specs.FrameIndex.{climbs_from, climbs_to, frames_rise_from, frames_rise, sound_lists, seen_in}
+use Rattle.frames_sums.specs.Sums.{add_points, add_bins, add_frame, frame_sums}
+use Rattle.frames_windows.specs.Windows.{bounds_window}
+use Rattle.sort_rank.specs.Rank.{counted, first_at, ranked, rank_f}
+use Rattle.rt_noise.specs.Noise.{middle, noise_f}
+use Rattle.rt_time.specs.Time.{time_between, time_at, never_falls, never_falls_from}
+use Rattle.rt_params.specs.Modes.{effective_f, sound_mode}
+use Rattle.rt_params.specs.Expand.{sound_expand}
+use Rattle.rt_params.specs.declared.RtExpandParams.{RtExpandParams}
+use Rattle.rt_params.specs.declared.ThresholdMode.TheVariants.{Fixed}
+use Rattle.expand_padded_window.specs.FrameWindow.{before, frame_with, widened, between as window_between, padded_window}
+use Rattle.rt_choice.specs.Chosen.{near_any, choose, choose_all, passing}
+use Rattle.rt_choice.specs.Ranking.{before as first, inserted_by, ordered_by}
+use Rattle.rt_choice.specs.Times.{near_in_time}
+use Rattle.rt_apex.specs.InTime.{subframe, apex_time, seconds_of, apex_area}
+use Rattle.rt_listing.specs.Shares.{total_area, largest, trace_area, best_area, meets_shares}
+use Rattle.rt_search.specs.Retention.{is_wide, rt_qualifying, higher_first, earlier_first, chosen_apexes, has_shares, listed_apexes}
+use Rattle.expand_trace.specs.Trace.{trace_over}
+use Rattle.expand_peak.specs.Expanded.{Run, run_of, window_in, floor_of}
+use Rattle.expand_numbers.specs.ExpandNumber.{sum_of, all_weights, sound_values, rising_axes, enough_room}
 use Rattle.expand.specs.ExpandCall.{Lent, lent_of, many_asks, one_number}
-use Rattle.expandlaws.specs.ExpandAccount.{raw_over, smooth_over}
+use Rattle.expand_laws.specs.ExpandAccount.{raw_over, smooth_over}
 use Rattle.expand.specs.ExpandCall.{OneAnswered}
-use Rattle.rowsearch.specs.Account.{◌∈◌}
+use Rattle.row_search.specs.Account.{◌∈◌}
 use Rattle.grid.specs.Answer.{Answered as GridAnswered}
-use Rattle.matching.specs.Cases.{asked}
+use Rattle.stitch_matching.specs.Cases.{asked}
 use Rattle.stitch.specs.Answer.{Lent as StitchLists, Answered as StitchAnswered}
-use Rattle.stitchlaws.specs.Cases.{list, before as lent}
+use Rattle.stitch_laws.specs.Cases.{list, before as lent}
 use Rattle.account.specs.Demand3.{qualifying_in, Listed, members, qualifying_over, shares_over, OrdinaryPath, TooClose, ListedFrame}
 
 -- ---- a grid of one row, 0 4 0 6 0 8 0, searched as it is, with a least distance of 3: case (f) of document 01

@@ -6,41 +6,41 @@ use Rattle.std.specs.Prelude.{Ok, Some}
 use Rattle.std.specs.Prelude.{◌≡◌, Bool, true, false, List, ◌⊎◌, ◌↔◌, ◌≢◌, ℕ, ◌+◌, ◌-◌, ◌*◌, ◌/◌, ◌%◌, ◌≤◌, ◌<◌, length, get_or, take, Float}
 use Rattle.std.specs.Float.Ieee.{lt, le}
 use Rattle.numeric.specs.Arith.{at}
-use Rattle.record.specs.Record.{size, size_in_bytes, peak_at}
-use Rattle.record.specs.declared.ImPeak1D.{ImPeak1D}
-use Rattle.rowsearch.specs.Account.{◌∈◌, dist}
-use Rattle.rowsearch.specs.Qualifying.{qualifying}
-use Rattle.gridrows.specs.Grid.{Grid, row_of, searched_of, words_to}
+use Rattle.row_record.specs.Record.{size, size_in_bytes, peak_at}
+use Rattle.row_record.specs.declared.ImPeak1D.{ImPeak1D}
+use Rattle.row_search.specs.Account.{◌∈◌, dist}
+use Rattle.row_search.specs.Qualifying.{qualifying}
+use Rattle.grid_rows.specs.Grid.{Grid, row_of, searched_of, words_to}
 use Rattle.grid.specs.Answer.{Answered as GridAnswered}
-use Rattle.gridlaws.specs.GridRecords.{Before}
-use Rattle.wordbytes.specs.Bytes.{words_of, bytes_of}
-use Rattle.capi.specs.Entry.{Answered as GridCalled}
-use Rattle.matching.specs.declared.StitchParams.{StitchParams}
-use Rattle.peaklist.specs.Extremes.{lowest_of, highest_of}
-use Rattle.merging.specs.MergingLaws.{Bound, low, high}
-use Rattle.grouping.specs.Grouping.{peaks_at}
-use Rattle.passes.specs.Account.{owner_at, members_of}
+use Rattle.grid_laws.specs.GridRecords.{Before}
+use Rattle.grid_word_bytes.specs.Bytes.{words_of, bytes_of}
+use Rattle.c_grid_stitch.specs.Entry.{Answered as GridCalled}
+use Rattle.stitch_matching.specs.declared.StitchParams.{StitchParams}
+use Rattle.stitch_peaks.specs.Extremes.{lowest_of, highest_of}
+use Rattle.stitch_merging.specs.MergingLaws.{Bound, low, high}
+use Rattle.stitch_grouping.specs.Grouping.{peaks_at}
+use Rattle.stitch_passes.specs.Account.{owner_at, members_of}
 use Rattle.stitch.specs.StitchNumber.{peaks_in}
 use Rattle.stitch.specs.Answer.{Lent as StitchLists, Answered as StitchAnswered}
-use Rattle.capi.specs.Stitching.{Answered as StitchCalled}
-use Rattle.rtparams.specs.declared.RtExpandParams.{RtExpandParams}
-use Rattle.rtrecord.specs.RtRecord.{rt_size, rt_peak_at}
-use Rattle.rtrecord.specs.declared.RtPeak1D.{RtPeak1D}
-use Rattle.chosen.specs.Times.{near_in_time}
-use Rattle.rtapex.specs.InTime.{apex_time}
-use Rattle.rtsearch.specs.Retention.{rt_qualifying, chosen_apexes, has_shares}
-use Rattle.expandtrace.specs.Trace.{any_above}
-use Rattle.expandpeak.specs.Expanded.{Run, window_in, floor_of}
-use Rattle.expandmany.specs.Many.{Many, sum_to, weights_at}
+use Rattle.c_grid_stitch.specs.Stitching.{Answered as StitchCalled}
+use Rattle.rt_params.specs.declared.RtExpandParams.{RtExpandParams}
+use Rattle.rt_record.specs.RtRecord.{rt_size, rt_peak_at}
+use Rattle.rt_record.specs.declared.RtPeak1D.{RtPeak1D}
+use Rattle.rt_choice.specs.Times.{near_in_time}
+use Rattle.rt_apex.specs.InTime.{apex_time}
+use Rattle.rt_search.specs.Retention.{rt_qualifying, chosen_apexes, has_shares}
+use Rattle.expand_trace.specs.Trace.{any_above}
+use Rattle.expand_peak.specs.Expanded.{Run, window_in, floor_of}
+use Rattle.expand_many.specs.Many.{Many, sum_to, weights_at}
 use Rattle.expand.specs.ExpandCall.{Lent as ExpandLists, OneAnswered, ManyAnswered}
 use Rattle.expand.specs.ExpandCall.{peaks_in as to_expand}
-use Rattle.expandapi.specs.Expansion.{OneTold, ManyTold}
-use Rattle.expandlaws.specs.ExpandAccount.{raw_over, smooth_over, times_over}
+use Rattle.c_expand.specs.Expansion.{OneTold, ManyTold}
+use Rattle.expand_laws.specs.ExpandAccount.{raw_over, smooth_over, times_over}
 
 -- ==== grids
 
 -- Qualifying apexes of row r, by their indices in the row: candidates of a row whose raw maximum reaches the floor, with a prominence of at least
--- the floor and a half-height width, rounded, of at least the least width (rowsearch/specs/Qualifying.antt).
+-- the floor and a half-height width, rounded, of at least the least width (row_search/specs/Qualifying.antt).
 abbrev pub qualifying_in : Grid → ℕ → List ℕ
 qualifying_in g r = qualifying g.params (searched_of g r) (row_of g r)
 
@@ -80,7 +80,7 @@ pub record GridAccounted (g : Grid) (rows count : ℕ) (out : List ℕ) : Type 0
   -- every record's row and index is a qualifying apex
   pub rows_are : (k : ℕ) → k < count → (peak_at out k).tof_row < rows
   pub only-qualifying : (k : ℕ) → k < count → (peak_at out k).scan ∈ qualifying_in g (peak_at out k).tof_row
-  -- they ascend strictly, by row and index (`Before`, gridlaws/specs/GridRecords.antt), so that none stands twice
+  -- they ascend strictly, by row and index (`Before`, grid_laws/specs/GridRecords.antt), so that none stands twice
   pub ascending : (j k : ℕ) → j < k → k < count → Before (peak_at out j) (peak_at out k)
   -- every qualifying apex is listed, or a chain leads from it to a listed one
   pub explained : (r i : ℕ) → r < rows → i ∈ qualifying_in g r → Listed out count r i ⊎ Chain g out count r i
@@ -121,7 +121,7 @@ pub record StitchAccounted (list : List ℕ) (is : StitchLists) (count : ℕ) : 
   pub no_other : (p k : ℕ) → p ∈ members list is k → k ≡ owner is p
   -- each stitched peak has a member at least
   pub some : (k : ℕ) → k < count → 0 < length (members list is k)
-  -- Its bounds, in TOF, frames, frame numbers, scans and absolute scans (`Bound`, merging/specs/MergingLaws.antt), are its members' extremes: the
+  -- Its bounds, in TOF, frames, frame numbers, scans and absolute scans (`Bound`, stitch_merging/specs/MergingLaws.antt), are its members' extremes: the
   -- lowest of the low bounds, and the highest of the high ones.
   pub lows : (k : ℕ) → k < count → (b : Bound) → low b (peak_at is.out k) ≡ lowest_of (low b) (member_peaks list is k)
   pub highs : (k : ℕ) → k < count → (b : Bound) → high b (peak_at is.out k) ≡ highest_of (high b) (member_peaks list is k)
@@ -144,7 +144,7 @@ StitchCallsAccounted =
 -- ==== expansion: a mobility peak p over a run, with parameters e and weights ws
 
 -- Padded frame window: the one that the Rust forms for the mobility peak and that expansion's first call gives, frames lo to hi, ends included,
--- by their places in the run (rtwindow/specs/FrameWindow.antt).
+-- by their places in the run (expand_padded_window/specs/FrameWindow.antt).
 abbrev pub Window : Run → RtExpandParams → ImPeak1D → ℕ → ℕ → Type 0
 Window run e p lo hi = Some (record { lo = lo; hi = hi }) ≡ window_in run e p
 
@@ -155,10 +155,10 @@ pub record Within (lo hi : ℕ) (r : RtPeak1D) : Type 0 where
   pub last : (lo ≤ r.rt_hi) × (r.rt_hi ≤ hi)
 
 -- The trace over the window, raw (`raw_over`) and smoothed (`smooth_over`), and its times (`times_over`) are those of
--- expandlaws/specs/ExpandAccount.antt.
+-- expand_laws/specs/ExpandAccount.antt.
 
 -- Qualifying retention apexes, by their places in the trace: the same as a row's, with the effective threshold as floor and the unrounded width
--- in seconds (rtsearch/specs/Retention.antt).
+-- in seconds (rt_search/specs/Retention.antt).
 abbrev pub qualifying_over : Run → RtExpandParams → List Float → ImPeak1D → ℕ → ℕ → List ℕ
 qualifying_over run e ws p lo hi =
     rt_qualifying (floor_of e (smooth_over run e ws p lo hi)) e.min_width_sec (smooth_over run e ws p lo hi) (raw_over run e p lo hi) (times_over run lo hi)

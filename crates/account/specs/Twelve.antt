@@ -6,25 +6,25 @@ use Rattle.std.specs.Float.{binary32}
 use Rattle.std.specs.Float.Ieee.{of_bits}
 use Rattle.refusal.specs.Answers.{answer_by}
 use Rattle.numeric.specs.Arith.{◌⊗◌, index_f}
-use Rattle.record.specs.Record.{size}
-use Rattle.params.specs.Params.{most_peaks}
-use Rattle.params.specs.declared.ImDetectParams.{ImDetectParams}
-use Rattle.params.specs.declared.RowPlace.{RowPlace}
-use Rattle.params.specs.declared.FrameBounds.{FrameBounds}
-use Rattle.rowsearch.specs.Qualifying.{kept}
+use Rattle.row_record.specs.Record.{size}
+use Rattle.row_params.specs.Params.{most_peaks}
+use Rattle.row_params.specs.declared.ImDetectParams.{ImDetectParams}
+use Rattle.row_params.specs.declared.RowPlace.{RowPlace}
+use Rattle.row_params.specs.declared.FrameBounds.{FrameBounds}
+use Rattle.row_search.specs.Qualifying.{kept}
 use Rattle.row.specs.Row.{row_words}
 use Rattle.row.specs.RowNumber.{row_number}
-use Rattle.digits.specs.Sorted.{up_to}
-use Rattle.tof.specs.declared.TofScale.{TofScale}
-use Rattle.tof.specs.Tof.{row_place}
-use Rattle.tof.specs.TofAnswers.{build_answer, bin_answer}
-use Rattle.rtparams.specs.declared.ThresholdMode.{ThresholdMode}
-use Rattle.rtparams.specs.declared.ThresholdMode.TheVariants.{Fixed}
-use Rattle.rtparams.specs.Modes.{effective_f}
-use Rattle.rank.specs.Rank.{distances}
-use Rattle.noise.specs.Noise.{middle, to_sigma, noise_f, noise_number}
-use Rattle.rtrecord.specs.RtRecord.{rt_size}
-use Rattle.fallback.specs.FallbackNumber.{fallback_number, with_fallback, fallback_peak}
+use Rattle.sort_digits.specs.Sorted.{up_to}
+use Rattle.tof_scale.specs.declared.TofScale.{TofScale}
+use Rattle.tof_scale.specs.Tof.{row_place}
+use Rattle.tof_scale.specs.TofAnswers.{build_answer, bin_answer}
+use Rattle.rt_params.specs.declared.ThresholdMode.{ThresholdMode}
+use Rattle.rt_params.specs.declared.ThresholdMode.TheVariants.{Fixed}
+use Rattle.rt_params.specs.Modes.{effective_f}
+use Rattle.sort_rank.specs.Rank.{distances}
+use Rattle.rt_noise.specs.Noise.{middle, to_sigma, noise_f, noise_number}
+use Rattle.rt_record.specs.RtRecord.{rt_size}
+use Rattle.rt_fallback.specs.FallbackNumber.{fallback_number, with_fallback, fallback_peak}
 
 -- ---- what is asked besides
 

@@ -13,20 +13,20 @@ use lib.Ieee.{Float}
 use Rattle.refusal.specs.Answers.{answer_by}
 use Rattle.refusal.proofs.Bools.{both, all4}
 use Rattle.limits.specs.Limits.{max_reading, max_list}
-use Rattle.smoothing.specs.Smoothing.{sound_weights}
-use Rattle.smoothing.proofs.Laws.{sound-count}
-use Rattle.record.specs.Record.{size, peak_at, all_sound}
-use Rattle.tof.specs.Tof.{sound_ends, agreeing}
-use Rattle.frameindex.specs.IndexNumber.{index_number}
-use Rattle.frameindex.proofs.IndexNumberLaws.{accepted}
-use Rattle.expandone.specs.Steps.{most}
-use Rattle.rtparams.specs.declared.RtExpandParams.{RtExpandParams}
-use Rattle.rtrecord.specs.RtRecord.{rt_size}
-use Rattle.rtrecord.specs.declared.RtPeak1D.{RtPeak1D}
-use Rattle.expandtrace.specs.FallbackPeaks.{peak_words}
-use Rattle.expandpeak.specs.Expanded.{Run, expanded}
-use Rattle.expandmany.specs.Many.{many_of, sum_to, weights_at, joined_to}
-use Rattle.expandnumbers.specs.ExpandNumber.{paired_axes, sum_of, all_weights, sound_values, rising_axes, enough_room, enough_scratch}
+use Rattle.row_smoothing.specs.Smoothing.{sound_weights}
+use Rattle.row_smoothing.proofs.Laws.{sound-count}
+use Rattle.row_record.specs.Record.{size, peak_at, all_sound}
+use Rattle.tof_scale.specs.Tof.{sound_ends, agreeing}
+use Rattle.frames_index.specs.IndexNumber.{index_number}
+use Rattle.frames_index.proofs.IndexNumberLaws.{accepted}
+use Rattle.expand_one.specs.Steps.{most}
+use Rattle.rt_params.specs.declared.RtExpandParams.{RtExpandParams}
+use Rattle.rt_record.specs.RtRecord.{rt_size}
+use Rattle.rt_record.specs.declared.RtPeak1D.{RtPeak1D}
+use Rattle.expand_trace.specs.FallbackPeaks.{peak_words}
+use Rattle.expand_peak.specs.Expanded.{Run, expanded}
+use Rattle.expand_many.specs.Many.{many_of, sum_to, weights_at, joined_to}
+use Rattle.expand_numbers.specs.ExpandNumber.{paired_axes, sum_of, all_weights, sound_values, rising_axes, enough_room, enough_scratch}
 use Rattle.refusal.specs.declared.Refusal.{Refusal}
 use Rattle.std.specs.Prelude.{Result}
 use Rattle.expand.specs.ExpandCall.{Lent, many_asks, many_number, ManyAnswered, alone, one_number, peaks_of, OneAnswered}

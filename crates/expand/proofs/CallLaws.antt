@@ -14,22 +14,22 @@ use Rattle.refusal.proofs.Bools.{clash, both, all3, all4, neither}
 use Rattle.limits.specs.Limits.{max_reading, max_frames, max_points, max_count, max_seconds, identities}
 use Rattle.numeric.specs.Numeric.{all_in_range}
 use Rattle.numeric.proofs.Patterns.{all-wider}
-use Rattle.smoothing.specs.Smoothing.{sound_weights}
-use Rattle.params.specs.Params.{rising}
-use Rattle.record.specs.Record.{size, peak_at, sound, all_sound}
-use Rattle.tof.specs.Tof.{sound_step}
-use Rattle.frameindex.specs.FrameIndex.{Index, frames, points, seen_in}
-use Rattle.frameindex.specs.IndexNumber.{Accepted}
-use Rattle.frameindex.proofs.IndexNumberLaws.{none-for, accepted, checked}
-use Rattle.rtparams.specs.Expand.{sound_expand}
-use Rattle.rtparams.specs.declared.RtExpandParams.{RtExpandParams}
-use Rattle.rtrecord.specs.RtRecord.{rt_size}
-use Rattle.expandwindow.proofs.WindowLaws.{sound-numbers}
-use Rattle.expandone.specs.Steps.{most, max_summed, Followed}
-use Rattle.expandtrace.specs.FallbackPeaks.{peak_words}
-use Rattle.expandmany.specs.Many.{Many, sum_to, weights_at, joined_to}
-use Rattle.expandmany.specs.Steps.{Ready, Done}
-use Rattle.expandnumbers.specs.ExpandNumber.{sum_of, sums_to, all_weights, sound_values, rising_axes, enough_room}
+use Rattle.row_smoothing.specs.Smoothing.{sound_weights}
+use Rattle.row_params.specs.Params.{rising}
+use Rattle.row_record.specs.Record.{size, peak_at, sound, all_sound}
+use Rattle.tof_scale.specs.Tof.{sound_step}
+use Rattle.frames_index.specs.FrameIndex.{Index, frames, points, seen_in}
+use Rattle.frames_index.specs.IndexNumber.{Accepted}
+use Rattle.frames_index.proofs.IndexNumberLaws.{none-for, accepted, checked}
+use Rattle.rt_params.specs.Expand.{sound_expand}
+use Rattle.rt_params.specs.declared.RtExpandParams.{RtExpandParams}
+use Rattle.rt_record.specs.RtRecord.{rt_size}
+use Rattle.expand_window.proofs.WindowLaws.{sound-numbers}
+use Rattle.expand_one.specs.Steps.{most, max_summed, Followed}
+use Rattle.expand_trace.specs.FallbackPeaks.{peak_words}
+use Rattle.expand_many.specs.Many.{Many, sum_to, weights_at, joined_to}
+use Rattle.expand_many.specs.Steps.{Ready, Done}
+use Rattle.expand_numbers.specs.ExpandNumber.{sum_of, sums_to, all_weights, sound_values, rising_axes, enough_room}
 use Rattle.refusal.specs.declared.Refusal.{Refusal}
 use Rattle.refusal.specs.Numbered.{number_of}
 use Rattle.refusal.proofs.NumberedLaws.{says-ok, says-err, number_of-positive}

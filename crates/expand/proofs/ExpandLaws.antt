@@ -1,6 +1,6 @@
 -- What the number of expansion's second call says.
 use Rattle.limits.specs.Limits.{max_reading}
-use Rattle.frameindex.proofs.IndexNumberLaws.{number-lowest as index-lowest}
+use Rattle.frames_index.proofs.IndexNumberLaws.{number-lowest as index-lowest}
 use Rattle.expand.specs.ExpandCall.{many_asks}
 use Rattle.expand.specs.ExpandLaws.{ExpandLowest}
 

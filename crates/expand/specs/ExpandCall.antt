@@ -2,18 +2,18 @@
 use Rattle.std.specs.Prelude.{Result, ◌≡◌, ◌&&◌, List, [], ◌∷◌, ◌++◌, ℕ, ◌*◌, ◌/◌, ◌%◌, leb, eqb, length, drop, Float}
 use Rattle.refusal.specs.Answers.{answer_by}
 use Rattle.limits.specs.Limits.{max_reading, max_list}
-use Rattle.record.specs.Record.{size, peak_at, all_sound}
-use Rattle.tof.specs.Tof.{sound_ends, agreeing}
-use Rattle.frameindex.specs.declared.numbers.Further.{Further}
-use Rattle.frameindex.specs.IndexNumber.{index_number}
-use Rattle.rtparams.specs.declared.RtExpandParams.{RtExpandParams}
-use Rattle.rtrecord.specs.RtRecord.{rt_size}
-use Rattle.rtrecord.specs.declared.RtPeak1D.{RtPeak1D}
-use Rattle.expandtrace.specs.FallbackPeaks.{peak_words}
-use Rattle.expandpeak.specs.Expanded.{Run, expanded}
-use Rattle.expandone.specs.Steps.{most}
-use Rattle.expandmany.specs.Many.{Many, many_of, joined_to, counts_to}
-use Rattle.expandnumbers.specs.ExpandNumber.{paired_axes, sums_to, all_weights, sound_values, rising_axes, enough_room, enough_scratch}
+use Rattle.row_record.specs.Record.{size, peak_at, all_sound}
+use Rattle.tof_scale.specs.Tof.{sound_ends, agreeing}
+use Rattle.frames_index.specs.declared.numbers.Further.{Further}
+use Rattle.frames_index.specs.IndexNumber.{index_number}
+use Rattle.rt_params.specs.declared.RtExpandParams.{RtExpandParams}
+use Rattle.rt_record.specs.RtRecord.{rt_size}
+use Rattle.rt_record.specs.declared.RtPeak1D.{RtPeak1D}
+use Rattle.expand_trace.specs.FallbackPeaks.{peak_words}
+use Rattle.expand_peak.specs.Expanded.{Run, expanded}
+use Rattle.expand_one.specs.Steps.{most}
+use Rattle.expand_many.specs.Many.{Many, many_of, joined_to, counts_to}
+use Rattle.expand_numbers.specs.ExpandNumber.{paired_axes, sums_to, all_weights, sound_values, rising_axes, enough_room, enough_scratch}
 use Rattle.refusal.specs.Numbered.{says}
 use Rattle.refusal.specs.declared.Refusal.{Refusal}
 

@@ -2,9 +2,9 @@
 use Rattle.std.specs.Prelude.{ℕ, ◌<◌}
 use Rattle.refusal.specs.Refusal.{Lowest}
 use Rattle.limits.specs.Limits.{max_reading}
-use Rattle.frameindex.specs.FrameIndex.{seen_in}
-use Rattle.frameindex.specs.IndexNumber.{index_checks}
-use Rattle.expandmany.specs.Many.{Many}
+use Rattle.frames_index.specs.FrameIndex.{seen_in}
+use Rattle.frames_index.specs.IndexNumber.{index_checks}
+use Rattle.expand_many.specs.Many.{Many}
 use Rattle.expand.specs.ExpandCall.{Lent, many_asks, many_number}
 
 -- it is the lowest that applies: `number-lowest` in proofs/ExpandLaws.antt

@@ -1,15 +1,15 @@
 // Expansion for input that the caller has checked.
 ghost use Rattle.std.specs.Prelude.{◌≤◌, length};
 ghost use Rattle.limits.specs.Limits.{max_frames};
-ghost use Rattle.expandmany.specs.Calls.{many_in};
-ghost use Rattle.expandmany.specs.Steps.{Ready, Done};
+ghost use Rattle.expand_many.specs.Calls.{many_in};
+ghost use Rattle.expand_many.specs.Steps.{Ready, Done};
 ghost use Rattle.expand.specs.ExpandCall.{PastKept};
 ghost use Rattle.expand.specs.Lists.{lent_in, SameLists};
 ghost use Rattle.expand.specs.Steps.{Lendable};
 
 use super::lent::Lent;
-use expandmany::peaks::PeakList;
-use expandone::run::FollowedRun;
+use expand_many::peaks::PeakList;
+use expand_one::run::FollowedRun;
 
 // Expands all mobility peaks of a list with the first words of scratch, one a frame.
 pub fn expand_lent(

@@ -7,17 +7,17 @@ mod numbers;
 mod sized;
 
 ghost use Rattle.std.specs.Prelude.{◌≡◌};
-ghost use Rattle.expandone.specs.Runs.{run_lent};
-ghost use Rattle.expandmany.specs.Calls.{many_lent};
+ghost use Rattle.expand_one.specs.Runs.{run_lent};
+ghost use Rattle.expand_many.specs.Calls.{many_lent};
 ghost use Rattle.expand.specs.Lists.{lent_in, SameLists};
 ghost use Rattle.expand.specs.ExpandCall.{ManyAnswered, OneAnswered};
 
-use expandmany::peaks::PeakList;
-use expandone::run::{FollowedRun, Run};
+use expand_many::peaks::PeakList;
+use expand_one::run::{FollowedRun, Run};
 use lent::Lent;
-use record::PeakId;
 use refusal::Refusal;
-use rtparams::RtExpandParams;
+use row_record::PeakId;
+use rt_params::RtExpandParams;
 
 // Writes the retention peaks of all mobility peaks of a list, one after another, to the front of `out`, and for each mobility peak how
 // many it has to the front of `counts`; answers how many there are in all. Or refuses and leaves all five lists as they are.

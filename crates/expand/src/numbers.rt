@@ -1,20 +1,20 @@
 // The numbers of expansion's second call.
 ghost use Rattle.std.specs.Prelude.{◌≡◌, ◌&&◌, ◌/◌, ◌%◌, eqb, length, IfOk};
 ghost use Rattle.refusal.specs.Numbered.{number_in};
-ghost use Rattle.record.specs.Record.{size};
-ghost use Rattle.expandnumbers.specs.ExpandNumber.{sums_to, paired_axes};
-ghost use Rattle.expandmany.specs.Calls.{many_lent};
+ghost use Rattle.row_record.specs.Record.{size};
+ghost use Rattle.expand_numbers.specs.ExpandNumber.{sums_to, paired_axes};
+ghost use Rattle.expand_many.specs.Calls.{many_lent};
 ghost use Rattle.expand.specs.ExpandCall.{many_asks, many_number};
 ghost use Rattle.expand.specs.Lists.{lent_in};
 
 use super::lent::Lent;
-use expandmany::peaks::PeakList;
-use expandone::run::Run;
-use frameindex::CheckedIndex;
-use frameindex::numbers::Further;
-use record::ImPeak1D;
+use expand_many::peaks::PeakList;
+use expand_one::run::Run;
+use frames_index::CheckedIndex;
+use frames_index::numbers::Further;
 use refusal::Refusal;
-use rtparams::RtExpandParams;
+use row_record::ImPeak1D;
+use rt_params::RtExpandParams;
 
 // Whether lists that belong together have lengths that agree; `starts` is the count of starts.
 fn same_lengths(run: &Run<'_>, starts: usize, peaks: &PeakList<'_>) -> bool
@@ -22,12 +22,12 @@ fn same_lengths(run: &Run<'_>, starts: usize, peaks: &PeakList<'_>) -> bool
 {
     (peaks.list.len() % ImPeak1D::WORDS == 0)
         & (peaks.lengths.len() == peaks.list.len() / ImPeak1D::WORDS)
-        & expandnumbers::inner::sums_to(peaks.lengths, peaks.weights.len())
-        & expandnumbers::inner::paired_axes(starts, run.ids.len(), run.times.len())
+        & expand_numbers::inner::sums_to(peaks.lengths, peaks.weights.len())
+        & expand_numbers::inner::paired_axes(starts, run.ids.len(), run.times.len())
 }
 
 // What a call is asked besides its index; `counts` is the length of the column of counts.
-#[tactic(auto, unfolding(crate::specs::ExpandCall::many_asks, expandnumbers::specs::ExpandNumber::rising_axes))]
+#[tactic(auto, unfolding(crate::specs::ExpandCall::many_asks, expand_numbers::specs::ExpandNumber::rising_axes))]
 fn many_asks(
     run: &Run<'_>,
     e: RtExpandParams,
@@ -39,13 +39,13 @@ fn many_asks(
 {
     let n = peaks.list.len() / ImPeak1D::WORDS;
     let f = run.ids.len();
-    let most = expandnumbers::inner::most_of(f);
+    let most = expand_numbers::inner::most_of(f);
     let index = run.index;
     let scale = run.scale;
     Further {
         lengths: same_lengths(run, index.starts.len(), peaks),
         sizes: n <= limits::MAX_LIST,
-        values: expandnumbers::inner::sound_values(
+        values: expand_numbers::inner::sound_values(
             e,
             scale.tof_step,
             run.times,
@@ -53,18 +53,18 @@ fn many_asks(
             n,
             most,
         ),
-        axes: tof::inner::sound_ends(scale),
-        weights: expandnumbers::inner::all_weights(peaks.lengths, peaks.weights),
-        order: rttime::inner::rising_axes(run.ids, run.times),
-        records: record::inner::all_sound(peaks.list),
-        room: expandnumbers::inner::enough_room(n, most, lent.out.len()) & (n <= counts),
-        scratch: expandnumbers::inner::enough_scratch(
+        axes: tof_scale::inner::sound_ends(scale),
+        weights: expand_numbers::inner::all_weights(peaks.lengths, peaks.weights),
+        order: rt_time::inner::rising_axes(run.ids, run.times),
+        records: row_record::inner::all_sound(peaks.list),
+        room: expand_numbers::inner::enough_room(n, most, lent.out.len()) & (n <= counts),
+        scratch: expand_numbers::inner::enough_scratch(
             f,
             lent.raw.len(),
             lent.smooth.len(),
             lent.order.len(),
         ),
-        scale: tof::inner::agrees(scale),
+        scale: tof_scale::inner::agrees(scale),
     }
 }
 

@@ -1,16 +1,16 @@
 // The lists of the search, in two sizes, since an array is filled before it is used.
 ghost use Rattle.std.specs.Prelude.{◌≤◌, length};
 ghost use Rattle.limits.specs.Limits.{max_frames};
-ghost use Rattle.rowsearch.specs.Room.{Sizes};
-ghost use Rattle.expandmany.specs.Calls.{many_in};
-ghost use Rattle.expandmany.specs.Steps.{Ready, Done};
+ghost use Rattle.row_search.specs.Room.{Sizes};
+ghost use Rattle.expand_many.specs.Calls.{many_in};
+ghost use Rattle.expand_many.specs.Steps.{Ready, Done};
 ghost use Rattle.expand.specs.Steps.{Lendable};
 
-use expandmany::peaks::PeakList;
-use expandone::run::FollowedRun;
-use expandone::scratch::RunScratch;
-use expandpeak::scratch::TraceScratch;
-use rowsearch::scratch::Arrays;
+use expand_many::peaks::PeakList;
+use expand_one::run::FollowedRun;
+use expand_one::scratch::RunScratch;
+use expand_peak::scratch::TraceScratch;
+use row_search::scratch::Arrays;
 
 // Expands all mobility peaks of a list, with room for a run of N frames. It is no part of its caller, so that shorter runs do not pay for
 // the lists of longer ones. Scratch stands list by list, as below.
@@ -41,7 +41,7 @@ fn expand_in<const N: usize, const B: usize>(
         near: &mut near,
         trace,
     };
-    expandmany::inner::expand_peaks(run, peaks, &mut scratch, out, counts)
+    expand_many::inner::expand_peaks(run, peaks, &mut scratch, out, counts)
 }
 
 // The same for any run of at most 16,384 frames. Scratch stands list by list: the caller lends the front of each, and the borrow checker

@@ -4,7 +4,7 @@ use mathlib.Core.Bool.{true, false}
 use Prim.Native.Nat.{ℕ}
 use Rattle.refusal.specs.Refusal.{first_of, ascending_from}
 use Rattle.refusal.proofs.RefusalLaws.{lowest_by, none-by, applies_for}
-use Rattle.gridrows.specs.Grid.{Grid}
+use Rattle.grid_rows.specs.Grid.{Grid}
 use Rattle.grid.specs.GridNumber.{grid_checks, grid_number}
 use Rattle.grid.specs.GridNumberLaws.{GridLowest}
 

@@ -15,13 +15,13 @@ use Rattle.refusal.specs.declared.Refusal.{Refusal}
 use Rattle.refusal.specs.Numbered.{number_of}
 use Rattle.refusal.proofs.NumberedLaws.{says-ok, says-err, number_of-positive}
 use Rattle.refusal.proofs.Bools.{clash, both, all4, all5, neither}
-use Rattle.params.specs.Params.{most_peaks, sound_params, all_up_to}
+use Rattle.row_params.specs.Params.{most_peaks, sound_params, all_up_to}
 use Rattle.row.specs.Written.{as_words}
-use Rattle.gridrows.specs.Grid.{Grid, count_to}
+use Rattle.grid_rows.specs.Grid.{Grid, count_to}
 use Rattle.grid.specs.GridNumber.{seen_in, checks_of, grid_number}
 use Rattle.grid.proofs.GridNumberLaws.{none-for}
 use Rattle.grid.specs.declared.numbers.Seen.{Seen}
-use Rattle.gridrows.specs.Steps.{Ready, Done}
+use Rattle.grid_rows.specs.Steps.{Ready, Done}
 use Rattle.grid.specs.Answer.{Answered, number_for}
 
 -- ---- the checks

@@ -1,8 +1,8 @@
 -- What is left of a grid, accepted or refused.
 use Rattle.std.specs.Prelude.{◌≡◌, cond, List, ◌++◌, ℕ, ◌*◌, eqb, length, drop, Float, Result}
 use Rattle.refusal.specs.Answers.{answer_by}
-use Rattle.record.specs.Record.{size}
-use Rattle.gridrows.specs.Grid.{Grid, count_to, words_to}
+use Rattle.row_record.specs.Record.{size}
+use Rattle.grid_rows.specs.Grid.{Grid, count_to, words_to}
 use Rattle.grid.specs.GridNumber.{grid_number}
 use Rattle.refusal.specs.declared.Refusal.{Refusal}
 use Rattle.refusal.specs.Numbered.{says}

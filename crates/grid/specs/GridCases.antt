@@ -4,14 +4,14 @@ use Rattle.std.specs.Float.Ieee.{of_int, of_bits, to_bits}
 use Rattle.numeric.specs.Arith.{index_f, 𝟎, 𝟏}
 use Rattle.numeric.specs.Numeric.{in_range, all_in_range}
 use Rattle.refusal.specs.Refusal.{first_of}
-use Rattle.record.specs.Record.{size}
-use Rattle.params.specs.Params.{sound_params, sound_bounds, all_up_to, rising, rising_from}
+use Rattle.row_record.specs.Record.{size}
+use Rattle.row_params.specs.Params.{sound_params, sound_bounds, all_up_to, rising, rising_from}
 use Rattle.std.specs.Prelude.{None}
-use Rattle.smoothing.specs.Smoothing.{sound_weights}
-use Rattle.tof.specs.Tof.{sound_step, sound_ends, agreeing}
-use Rattle.gridrows.specs.Grid.{Grid}
+use Rattle.row_smoothing.specs.Smoothing.{sound_weights}
+use Rattle.tof_scale.specs.Tof.{sound_step, sound_ends, agreeing}
+use Rattle.grid_rows.specs.Grid.{Grid}
 use Rattle.grid.specs.GridNumber.{grid_number}
-use Rattle.gridrows.specs.Steps.{call_grid}
+use Rattle.grid_rows.specs.Steps.{call_grid}
 
 -- TOF values from 0 on with step 1, so that `bins` rows end at `top`; floor, distances and frames are 0
 abbrev grid : ℕ → ℕ → List ℕ → List ℕ → List ℕ → List Float → ℕ → Grid

@@ -3,14 +3,14 @@ use Rattle.std.specs.Prelude.{not, ◌&&◌, ◌||◌, List, [], ◌∷◌, ℕ,
 use Rattle.refusal.specs.Refusal.{Check, first_of}
 use Rattle.limits.specs.Limits.{max_reading, max_mobility, max_scan, max_rows, max_samples}
 use Rattle.numeric.specs.Numeric.{all_in_range}
-use Rattle.record.specs.Record.{size}
-use Rattle.params.specs.Params.{most_peaks, sound_params, sound_bounds, enough_ids, all_up_to, rising}
-use Rattle.params.specs.declared.ImDetectParams.{ImDetectParams}
-use Rattle.params.specs.declared.FrameBounds.{FrameBounds}
-use Rattle.smoothrow.specs.SmoothRow.{sound_or_none}
-use Rattle.tof.specs.Tof.{sound_step, sound_ends, agreeing}
-use Rattle.tof.specs.declared.TofScale.{TofScale}
-use Rattle.gridrows.specs.Grid.{Grid}
+use Rattle.row_record.specs.Record.{size}
+use Rattle.row_params.specs.Params.{most_peaks, sound_params, sound_bounds, enough_ids, all_up_to, rising}
+use Rattle.row_params.specs.declared.ImDetectParams.{ImDetectParams}
+use Rattle.row_params.specs.declared.FrameBounds.{FrameBounds}
+use Rattle.row_smoothed.specs.SmoothRow.{sound_or_none}
+use Rattle.tof_scale.specs.Tof.{sound_step, sound_ends, agreeing}
+use Rattle.tof_scale.specs.declared.TofScale.{TofScale}
+use Rattle.grid_rows.specs.Grid.{Grid}
 use Rattle.grid.specs.declared.numbers.Seen.{Seen}
 
 -- What reading the lists of a grid shows: how long they are, and whether what they hold is in range. Readings go from 0 to 2^32,

@@ -1,7 +1,7 @@
 -- What the number of a grid says.
 use Rattle.std.specs.Prelude.{ℕ, ◌<◌}
 use Rattle.refusal.specs.Refusal.{Lowest}
-use Rattle.gridrows.specs.Grid.{Grid}
+use Rattle.grid_rows.specs.Grid.{Grid}
 use Rattle.grid.specs.GridNumber.{grid_checks, grid_number}
 
 -- it is the lowest that applies: `number-lowest` in proofs/GridNumberLaws.antt

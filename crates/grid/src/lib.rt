@@ -4,18 +4,18 @@
 pub mod numbers;
 
 ghost use Rattle.std.specs.Prelude.{◌≡◌};
-ghost use Rattle.smoothrow.specs.SmoothRow.{sound_or_none};
-ghost use Rattle.gridrows.specs.Grid.{used_of};
+ghost use Rattle.row_smoothed.specs.SmoothRow.{sound_or_none};
+ghost use Rattle.grid_rows.specs.Grid.{used_of};
 ghost use Rattle.grid.specs.GridNumber.{seen_in};
-ghost use Rattle.gridrows.specs.Steps.{call_grid};
+ghost use Rattle.grid_rows.specs.Steps.{call_grid};
 ghost use Rattle.grid.specs.Answer.{Answered};
 
-use gridrows::call::{GridCall, Terms};
+use grid_rows::call::{GridCall, Terms};
 use numbers::Seen;
-use params::{FrameBounds, ImDetectParams};
-use record::PeakId;
 use refusal::Refusal;
-use tof::TofScale;
+use row_params::{FrameBounds, ImDetectParams};
+use row_record::PeakId;
+use tof_scale::TofScale;
 
 // The readings that are worked on: the raw ones where there are any, else the smoothed ones.
 fn used_of<'a>(raw: &'a [f32], smooth: &'a [f32]) -> &'a [f32]
@@ -27,10 +27,10 @@ fn used_of<'a>(raw: &'a [f32], smooth: &'a [f32]) -> &'a [f32]
 fn sound_weights(weights: &[f32]) -> bool
     ensures { result ≡ sound_or_none weights.now }
 {
-    weights.is_empty() | smoothing::inner::sound_weights(weights)
+    weights.is_empty() | row_smoothing::inner::sound_weights(weights)
 }
 
-// Reads the lists of a grid. That of lists in bytes is in capi, with the tests of wordbytes: a reader over row's `Column` would need tests
+// Reads the lists of a grid. That of lists in bytes is in c_grid_stitch, with the tests of grid_word_bytes: a reader over row's `Column` would need tests
 // over it besides.
 fn see(raw: &[f32], smooth: &[f32], scans: &[u32], mobility: &[f32], weights: &[f32]) -> Seen
     ensures { result ≡ seen_in (used_of raw.now smooth.now) scans.now mobility.now weights.now }
@@ -42,8 +42,8 @@ fn see(raw: &[f32], smooth: &[f32], scans: &[u32], mobility: &[f32], weights: &[
         mobility: mobility.len(),
         sound_readings: numeric::inner::all_in_range(used, limits::MAX_READING),
         sound_mobility: numeric::inner::all_in_range(mobility, limits::MAX_MOBILITY),
-        sound_scans: params::inner::all_up_to(limits::MAX_SCAN, scans),
-        rising_scans: params::inner::is_rising(scans),
+        sound_scans: row_params::inner::all_up_to(limits::MAX_SCAN, scans),
+        rising_scans: row_params::inner::is_rising(scans),
         sound_weights: sound_weights(weights),
     }
 }
@@ -82,5 +82,5 @@ pub fn detect_im_peaks_from_tof_scan_grid<'a>(
     };
     let seen = see(data_raw, data, scans, mobility, weights);
     numbers::check(seen, rows, call.terms, out.len(), scratch.len())?;
-    Ok(gridrows::sized::detect(&call, weights, 0..rows, out, scratch))
+    Ok(grid_rows::sized::detect(&call, weights, 0..rows, out, scratch))
 }

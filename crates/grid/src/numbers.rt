@@ -2,13 +2,13 @@
 ghost use Rattle.std.specs.Prelude.{◌≡◌, ◌&&◌, ◌||◌, ◌*◌, eqb, length};
 ghost use Rattle.refusal.specs.Refusal.{first_of};
 ghost use Rattle.refusal.specs.Numbered.{number_in};
-ghost use Rattle.params.specs.Params.{sound_params, sound_bounds, enough_ids};
-ghost use Rattle.tof.specs.Tof.{sound_step, sound_ends};
+ghost use Rattle.row_params.specs.Params.{sound_params, sound_bounds, enough_ids};
+ghost use Rattle.tof_scale.specs.Tof.{sound_step, sound_ends};
 ghost use Rattle.grid.specs.GridNumber.{checks_of};
 
-use gridrows::call::Terms;
-use record::ImPeak1D;
+use grid_rows::call::Terms;
 use refusal::Refusal;
+use row_record::ImPeak1D;
 
 // What reading the lists of a grid shows: how long they are, and whether what they hold is in range. A flag for each number that a list
 // decides: the lists are read as words or as bytes, and one check takes what either reading saw.
@@ -50,14 +50,14 @@ fn sound_values(s: Seen, t: Terms, peaks: usize) -> bool
     t.params.is_sound()
         & s.sound_mobility
         & t.bounds.is_sound()
-        & tof::inner::sound_step(t.scale.tof_step)
-        & params::inner::enough_ids(t.first, peaks)
+        & tof_scale::inner::sound_step(t.scale.tof_step)
+        & row_params::inner::enough_ids(t.first, peaks)
 }
 
 fn sound_axis(s: Seen, t: Terms) -> bool
     ensures { result ≡ (s.sound_scans && sound_ends t.scale) }
 {
-    s.sound_scans & tof::inner::sound_ends(t.scale)
+    s.sound_scans & tof_scale::inner::sound_ends(t.scale)
 }
 
 // Refuses with the lowest number that applies; `room` and `space` are the lengths of the lent list and of the lent scratch.
@@ -74,7 +74,7 @@ pub fn check(s: Seen, rows: usize, t: Terms, room: usize, space: usize) -> Resul
     if !s.sound_readings {
         return Err(Refusal::Reading);
     }
-    let peaks = rows * params::inner::most_peaks(t.cols);
+    let peaks = rows * row_params::inner::most_peaks(t.cols);
     if !sound_values(s, t, peaks) {
         return Err(Refusal::Value);
     }
@@ -93,7 +93,7 @@ pub fn check(s: Seen, rows: usize, t: Terms, room: usize, space: usize) -> Resul
     if space < t.cols {
         return Err(Refusal::Scratch);
     }
-    if !tof::inner::agrees(t.scale) {
+    if !tof_scale::inner::agrees(t.scale) {
         return Err(Refusal::Scale);
     }
     Ok(())

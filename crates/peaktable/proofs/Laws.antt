@@ -4,17 +4,17 @@ use Rattle.std.specs.Option.{unwrap_or, is_some}
 use mathlib.Core.Logic.{inl, inr}
 use borrow.Author.Tests.{eqb-true, eqb-false, leb-true, leb-false, not-true}
 use Rattle.refusal.proofs.Bools.{clash, both}
-use Rattle.table.specs.Text.{lf}
-use Rattle.table.specs.Table.{ends_in_cr, verdict}
-use Rattle.table.specs.Lines.{no_lf}
-use Rattle.table.specs.declared.Progress.{Progress}
-use Rattle.table.specs.declared.Verdict.{Verdict}
-use Rattle.table.proofs.Lines.{long-refused}
-use Rattle.linefault.specs.declared.Fault.{Fault}
-use Rattle.linefault.specs.Faults.{no_end, last_text, line_fault, last_line_fault, last_fault_of, refuses, refused_ended}
-use Rattle.linefault.proofs.Facts.{line-fault, ended-fault, last-behind, last-alone, last-ended, never-unlike}
-use Rattle.linefault.proofs.Told.{last-long, last-open}
-use Rattle.tabletext.specs.Refused.{line_starts, RefusedLine, Overlong, RefusedLast}
+use Rattle.table_text.specs.Text.{lf}
+use Rattle.table_text.specs.Table.{ends_in_cr, verdict}
+use Rattle.table_text.specs.Lines.{no_lf}
+use Rattle.table_text.specs.declared.Progress.{Progress}
+use Rattle.table_text.specs.declared.Verdict.{Verdict}
+use Rattle.table_text.proofs.Lines.{long-refused}
+use Rattle.table_faults.specs.declared.Fault.{Fault}
+use Rattle.table_faults.specs.Faults.{no_end, last_text, line_fault, last_line_fault, last_fault_of, refuses, refused_ended}
+use Rattle.table_faults.proofs.Facts.{line-fault, ended-fault, last-behind, last-alone, last-ended, never-unlike}
+use Rattle.table_faults.proofs.Told.{last-long, last-open}
+use Rattle.table_lines.specs.Refused.{line_starts, RefusedLine, Overlong, RefusedLast}
 
 -- ---- the line behind some bytes that it starts behind
 ends-lf : (b : ℕ) (bs : List ℕ) → line_starts (b ∷ bs) ≡ true → (x : List ℕ) × (b ∷ bs ≡ x ++ (lf ∷ []))

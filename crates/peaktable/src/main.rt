@@ -1,21 +1,21 @@
 // Reads RFC 4180 lines from standard input, parameters first and then rows of readings, and prints the table of their mobility
-// peaks to standard output. It holds a line at a time. What lies between a read and a write is `tablejob`: here are the calls.
+// peaks to standard output. It holds a line at a time. What lies between a read and a write is `table_job`: here are the calls.
 #![tactic(auto)]
 
 mod say;
 
 ghost use Rattle.std.specs.Prelude.{◌≡◌, ◌≢◌, true, Some, List, ℕ, ◌≤◌, ◌<◌, ◌+◌, length, take, IfOk};
-ghost use Rattle.table.specs.Sizes.{max_fields, max_line, line_room};
-ghost use Rattle.table.specs.Lines.{no_lf};
-ghost use Rattle.linefault.specs.declared.Fault.{Fault};
-ghost use Rattle.linefault.specs.Faults.{last_line_fault, last_fault_of, end_fault_of};
-ghost use Rattle.tabletext.specs.Refused.{RefusedLast};
-ghost use Rattle.tablejob.specs.Stands.{held, Reached, Ends};
+ghost use Rattle.table_text.specs.Sizes.{max_fields, max_line, line_room};
+ghost use Rattle.table_text.specs.Lines.{no_lf};
+ghost use Rattle.table_faults.specs.declared.Fault.{Fault};
+ghost use Rattle.table_faults.specs.Faults.{last_line_fault, last_fault_of, end_fault_of};
+ghost use Rattle.table_lines.specs.Refused.{RefusedLast};
+ghost use Rattle.table_job.specs.Stands.{held, Reached, Ends};
 
-use linefault::Fault;
 use say::Failure;
 use std::io::{self, Read, Stdin};
-use tablejob::inner::Job;
+use table_faults::Fault;
+use table_job::inner::Job;
 
 // Reads bytes behind those that are there, and says how many: 0 at the end of the input.
 fn more_bytes(input: &mut Stdin, buf: &mut [u8], have: usize) -> io::Result<usize>
@@ -50,7 +50,7 @@ fn fault_behind(j: Job, buf: &[u8]) -> Fault
     ensures found { last_line_fault j.progress (take j.from buf.now) ≡ Some result }
     ensures named { result ≢ Fault.Unlike }
 {
-    linefault::last_fault(j.progress, &buf[..j.from])
+    table_faults::last_fault(j.progress, &buf[..j.from])
 }
 
 // The fault at the end of the input, if there is one: of all that is held, which is one line or none.
@@ -58,7 +58,7 @@ fn fault_at_end(j: Job, buf: &[u8]) -> Option<Fault>
     requires { (j.from ≡ 0) × (j.have ≤ length buf.now) × (no_lf (held buf.now j) ≡ true) }
     ensures { result ≡ end_fault_of j.progress (take j.have buf.now) }
 {
-    linefault::end_fault(j.progress, &buf[..j.have])
+    table_faults::end_fault(j.progress, &buf[..j.have])
 }
 
 // Writes what waits where reading failed: the refusal behind it.
@@ -88,7 +88,7 @@ fn run(
             let fault = fault_behind(job, buf);
             return finish(rt, job, Some(fault), out);
         }
-        if out.len() - job.waiting < table::LINE_ROOM {
+        if out.len() - job.waiting < table_text::LINE_ROOM {
             rt.write_all(&out[..job.waiting])?;
             job = job.handed_over();
         } else {
@@ -108,7 +108,7 @@ fn run(
 
 fn main(rt: HostRuntime) {
     let mut buf = [0u8; 65536];
-    let mut row = [0f32; table::MAX_FIELDS];
+    let mut row = [0f32; table_text::MAX_FIELDS];
     let mut out = [0u8; 262144];
     if let Err(failure) = run(&rt, &mut rt.stdin(), &mut buf, &mut row, &mut out) {
         say::failed(&rt, failure);

@@ -1,12 +1,12 @@
 // Words on standard error, for people: the first one of a line tells what the program installed as `peaktable` answers as its exit
 // status (docs/TABLE.md).
 ghost use Rattle.std.specs.Prelude.{◌≡◌};
-ghost use Rattle.tabletext.specs.Refused.{line_number};
+ghost use Rattle.table_lines.specs.Refused.{line_number};
 
-use linefault::Fault;
 use std::fmt;
 use std::io::{self, ErrorKind};
-use table::Progress;
+use table_faults::Fault;
+use table_text::Progress;
 
 // What keeps the table from being whole.
 #[derive(Clone, Copy, Debug, PartialEq, Eq)]

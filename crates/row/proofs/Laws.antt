@@ -15,21 +15,21 @@ use Rattle.numeric.specs.Arith.{at, 𝟎}
 use Rattle.numeric.specs.Numeric.{all_in_range}
 use Rattle.refusal.proofs.Bools.{both, all3, all5}
 use Rattle.numeric.proofs.Patterns.{all-wider}
-use Rattle.spans.specs.Span.{span_of}
-use Rattle.record.specs.declared.ImPeak1D.{ImPeak1D}
-use Rattle.record.specs.Record.{size, words_of, with_peak}
-use Rattle.params.specs.Params.{most_peaks, sound_params}
-use Rattle.params.specs.declared.ImDetectParams.{ImDetectParams}
-use Rattle.params.specs.declared.RowPlace.{RowPlace}
-use Rattle.params.specs.declared.FrameBounds.{FrameBounds}
+use Rattle.row_spans.specs.Span.{span_of}
+use Rattle.row_record.specs.declared.ImPeak1D.{ImPeak1D}
+use Rattle.row_record.specs.Record.{size, words_of, with_peak}
+use Rattle.row_params.specs.Params.{most_peaks, sound_params}
+use Rattle.row_params.specs.declared.ImDetectParams.{ImDetectParams}
+use Rattle.row_params.specs.declared.RowPlace.{RowPlace}
+use Rattle.row_params.specs.declared.FrameBounds.{FrameBounds}
 use Rattle.std.specs.Prelude.{Option, None, Some, cond, is_some}
 use Rattle.std.specs.Option.{unwrap_or}
 use Rattle.std.specs.Bool.{then_some}
 use mathlib.Core.Logic.{◌⊎◌, inl, inr}
-use Rattle.rowsearch.specs.Qualifying.{left_x, right_x, width}
-use Rattle.rowsearch.specs.Found.{measured_of, measured_at, oldest, Searchable}
-use Rattle.rowsearch.specs.declared.inner.Measured.{Measured}
-use Rattle.rowsearch.proofs.Laws.{Next, measured-index}
+use Rattle.row_search.specs.Qualifying.{left_x, right_x, width}
+use Rattle.row_search.specs.Found.{measured_of, measured_at, oldest, Searchable}
+use Rattle.row_search.specs.declared.inner.Measured.{Measured}
+use Rattle.row_search.proofs.Laws.{Next, measured-index}
 use Rattle.row.specs.declared.inner.OnAxes.{OnAxes}
 use Rattle.row.specs.Row.{on_axes, mobility_at, mobility_of, mobility_flag, flag_of, group_flag, group_word, subscan, peak_of, row_words}
 use Rattle.row.specs.RowNumber.{same_lengths, sound_readings, sound_values, row_number}

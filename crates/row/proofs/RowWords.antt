@@ -5,10 +5,10 @@ use Prim.Native.Nat.{ℕ, ◌+◌, ◌*◌}
 use native.Mathlib.Omega.{arith}
 use lib.ListN.{length, length-append}
 use lib.Ieee.{Float}
-use Rattle.record.specs.Record.{size}
-use Rattle.record.proofs.RoundTrip.{words-length}
-use Rattle.params.specs.declared.RowPlace.{RowPlace}
-use Rattle.params.specs.declared.FrameBounds.{FrameBounds}
+use Rattle.row_record.specs.Record.{size}
+use Rattle.row_record.proofs.RoundTrip.{words-length}
+use Rattle.row_params.specs.declared.RowPlace.{RowPlace}
+use Rattle.row_params.specs.declared.FrameBounds.{FrameBounds}
 use Rattle.row.specs.Row.{peak_of, row_words}
 
 pub row-words-length : (r : RowPlace) (f : FrameBounds) (mobility : List Float) (axis : List ℕ) (y z : List Float) (first : ℕ) (ks : List ℕ)

@@ -5,15 +5,15 @@ use Rattle.std.specs.Float.Ieee.{of_bits}
 use Rattle.numeric.specs.Arith.{𝟎, ½, index_f, at}
 use Rattle.numeric.specs.Numeric.{max_f, min_f, clamp_f, quad_f}
 use Rattle.rounding.specs.Rounding.{floor_f, ceil_f}
-use Rattle.apex.specs.Apex.{prominence}
-use Rattle.area.specs.Area.{area_f}
-use Rattle.record.specs.declared.ImPeak1D.{ImPeak1D}
-use Rattle.record.specs.Record.{words_of}
-use Rattle.spans.specs.Span.{sample_at}
-use Rattle.rowsearch.specs.Qualifying.{left_x, right_x, width}
-use Rattle.rowsearch.specs.declared.inner.Measured.{Measured}
-use Rattle.params.specs.declared.RowPlace.{RowPlace}
-use Rattle.params.specs.declared.FrameBounds.{FrameBounds}
+use Rattle.row_apex.specs.Apex.{prominence}
+use Rattle.row_area.specs.Area.{area_f}
+use Rattle.row_record.specs.declared.ImPeak1D.{ImPeak1D}
+use Rattle.row_record.specs.Record.{words_of}
+use Rattle.row_spans.specs.Span.{sample_at}
+use Rattle.row_search.specs.Qualifying.{left_x, right_x, width}
+use Rattle.row_search.specs.declared.inner.Measured.{Measured}
+use Rattle.row_params.specs.declared.RowPlace.{RowPlace}
+use Rattle.row_params.specs.declared.FrameBounds.{FrameBounds}
 use Rattle.std.specs.Prelude.{Option}
 use Rattle.std.specs.Prelude.{None, Some}
 use Rattle.row.specs.declared.inner.OnAxes.{OnAxes}

@@ -3,12 +3,12 @@ use Rattle.std.specs.Prelude.{Bool, cond, not, ◌&&◌, List, [], ◌∷◌, �
 use Rattle.refusal.specs.Refusal.{Check, first_of}
 use Rattle.limits.specs.Limits.{max_height, max_reading, max_mobility, last_row, max_scan, max_samples}
 use Rattle.numeric.specs.Numeric.{all_in_range}
-use Rattle.record.specs.Record.{size}
-use Rattle.params.specs.Params.{most_peaks, lent_or_empty, sound_params, sound_bounds, sound_tof, enough_ids, all_up_to, rising}
-use Rattle.params.specs.declared.ImDetectParams.{ImDetectParams}
-use Rattle.params.specs.declared.RowPlace.{RowPlace}
-use Rattle.params.specs.declared.FrameBounds.{FrameBounds}
-use Rattle.rowsearch.specs.Qualifying.{kept}
+use Rattle.row_record.specs.Record.{size}
+use Rattle.row_params.specs.Params.{most_peaks, lent_or_empty, sound_params, sound_bounds, sound_tof, enough_ids, all_up_to, rising}
+use Rattle.row_params.specs.declared.ImDetectParams.{ImDetectParams}
+use Rattle.row_params.specs.declared.RowPlace.{RowPlace}
+use Rattle.row_params.specs.declared.FrameBounds.{FrameBounds}
+use Rattle.row_search.specs.Qualifying.{kept}
 use Rattle.row.specs.Row.{row_words}
 
 -- y is the smoothed row, z the raw one

@@ -1,9 +1,9 @@
 -- What the number of a row says.
 use Rattle.std.specs.Prelude.{List, ℕ, ◌<◌, Float}
 use Rattle.refusal.specs.Refusal.{Lowest}
-use Rattle.params.specs.declared.ImDetectParams.{ImDetectParams}
-use Rattle.params.specs.declared.RowPlace.{RowPlace}
-use Rattle.params.specs.declared.FrameBounds.{FrameBounds}
+use Rattle.row_params.specs.declared.ImDetectParams.{ImDetectParams}
+use Rattle.row_params.specs.declared.RowPlace.{RowPlace}
+use Rattle.row_params.specs.declared.FrameBounds.{FrameBounds}
 use Rattle.row.specs.RowNumber.{row_checks, row_number}
 
 -- it is the lowest that applies: `number-lowest` in proofs/RowNumberLaws.antt

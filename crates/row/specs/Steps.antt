@@ -3,14 +3,14 @@ use Rattle.std.specs.Prelude.{◌≡◌, true, List, ◌++◌, ℕ, ◌+◌, ◌
 use Rattle.limits.specs.Limits.{any_number, exact_index, identities}
 use Rattle.numeric.specs.Arith.{𝟎}
 use Rattle.numeric.specs.Numeric.{all_in_range}
-use Rattle.record.specs.Record.{size}
-use Rattle.params.specs.Params.{most_peaks}
-use Rattle.params.specs.declared.ImDetectParams.{ImDetectParams}
-use Rattle.params.specs.declared.RowPlace.{RowPlace}
-use Rattle.params.specs.declared.FrameBounds.{FrameBounds}
-use Rattle.rowsearch.specs.Qualifying.{highest_reading, reaches}
-use Rattle.rowsearch.specs.Found.{measured_of}
-use Rattle.rowsearch.specs.declared.inner.Measured.{Measured}
+use Rattle.row_record.specs.Record.{size}
+use Rattle.row_params.specs.Params.{most_peaks}
+use Rattle.row_params.specs.declared.ImDetectParams.{ImDetectParams}
+use Rattle.row_params.specs.declared.RowPlace.{RowPlace}
+use Rattle.row_params.specs.declared.FrameBounds.{FrameBounds}
+use Rattle.row_search.specs.Qualifying.{highest_reading, reaches}
+use Rattle.row_search.specs.Found.{measured_of}
+use Rattle.row_search.specs.declared.inner.Measured.{Measured}
 use Rattle.row.specs.Row.{row_words}
 use Rattle.row.specs.Written.{Written, stride}
 

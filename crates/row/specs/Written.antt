@@ -1,8 +1,8 @@
 -- How the words of records are written to a lent list: as they are, or each as some bytes.
 use Rattle.std.specs.Prelude.{◌≡◌, refl, List, ◌++◌, ℕ, ◌+◌, ◌*◌, length, take, drop}
 use Rattle.std.proofs.Common.{sym, mul-one}
-use Rattle.record.specs.Record.{size, words_of}
-use Rattle.record.specs.declared.ImPeak1D.{ImPeak1D}
+use Rattle.row_record.specs.Record.{size, words_of}
+use Rattle.row_record.specs.declared.ImPeak1D.{ImPeak1D}
 
 -- Of a list of T: `unit` is how many places a word takes.
 pub record Written (T : Type 0) : Type 0 where

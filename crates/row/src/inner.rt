@@ -2,21 +2,21 @@
 ghost use Rattle.std.specs.Prelude.{◌≡◌, true, List, ◌++◌, ℕ, ◌≤◌, ◌<◌, ◌+◌, ◌*◌, length, drop, Float};
 ghost use Rattle.limits.specs.Limits.{any_number, exact_index, max_samples};
 ghost use Rattle.numeric.specs.Numeric.{all_in_range};
-ghost use Rattle.params.specs.Params.{most_peaks};
-ghost use Rattle.rowsearch.specs.SameLists.{SameLists};
-ghost use Rattle.rowsearch.specs.Qualifying.{kept};
-ghost use Rattle.rowsearch.specs.Found.{Searchable, Standing};
-ghost use Rattle.rowsearch.specs.Room.{Sizes};
+ghost use Rattle.row_params.specs.Params.{most_peaks};
+ghost use Rattle.row_search.specs.SameLists.{SameLists};
+ghost use Rattle.row_search.specs.Qualifying.{kept};
+ghost use Rattle.row_search.specs.Found.{Searchable, Standing};
+ghost use Rattle.row_search.specs.Room.{Sizes};
 ghost use Rattle.row.specs.Row.{on_axes, subscan, scan_at, mobility_of, peak_of};
 ghost use Rattle.row.specs.Steps.{Inside, Writable, Numbers, RecordsPut};
 ghost use Rattle.row.specs.Written.{as_words};
 
 use super::column::Column;
 use super::written::{AsWords, Written};
-use params::{FrameBounds, ImDetectParams, RowPlace};
-use record::{ImPeak1D, PeakId};
-use rowsearch::inner::Measured;
-use rowsearch::scratch::{Arrays, Scratch};
+use row_params::{FrameBounds, ImDetectParams, RowPlace};
+use row_record::{ImPeak1D, PeakId};
+use row_search::inner::Measured;
+use row_search::scratch::{Arrays, Scratch};
 
 fn scan_at<S: Column<u32>>(axis: S, k: usize) -> u32
     requires { 0 < length (S.items axis) }
@@ -26,12 +26,12 @@ fn scan_at<S: Column<u32>>(axis: S, k: usize) -> u32
 }
 
 // How far an apex lies from its sample, as apex tells it.
-#[tactic(auto, unfolding(crate::specs::Row::subscan, apex::specs::Apex::offset_of))]
+#[tactic(auto, unfolding(crate::specs::Row::subscan, row_apex::specs::Apex::offset_of))]
 fn subscan_of(y: &[f32], i: usize) -> f32
     requires { (0 < i) × (i + 1 < length y.now) }
     ensures { result ≡ subscan y.now i }
 {
-    apex::inner::offset_of(y, i)
+    row_apex::inner::offset_of(y, i)
 }
 
 // The mobility at a sample, where there are mobilities.
@@ -66,7 +66,7 @@ fn on_axes<M: Column<f32>, S: Column<u32>>(mobility: M, axis: S, a: Measured) ->
 
 // A row whose peaks are listed: the samples that are searched, the readings, where they lie, a mobility for each sample or none, and a
 // scan for each. The parameters and the first identity, which go with it through five functions, are no fields: `peak_on` and `peak_of`
-// take a peak's own identity and no parameters, and peaklines makes a row for `peak_on` alone.
+// take a peak's own identity and no parameters, and table_peak_lines makes a row for `peak_on` alone.
 #[derive(Clone, Copy)]
 pub struct Row<'a, M, S> {
     pub y: &'a [f32],
@@ -132,7 +132,7 @@ impl<'a, M: Column<f32>, S: Column<u32>> Row<'a, M, S> {
 
     // Writes the records of the n apexes that stand in `found` to the front of `out`, the oldest first. By place: j is the place of the
     // apex in `found`, that of its record in `out`, and how far its identity lies behind the first. `found` and n are no `Apexes`
-    // as in rtplaces, where six functions take both: here one does, from the search that told them.
+    // as in rt_listing, where six functions take both: here one does, from the search that told them.
     pub fn put_peaks<W: Written>(
         &self,
         found: &[u32],
@@ -145,7 +145,7 @@ impl<'a, M: Column<f32>, S: Column<u32>> Row<'a, M, S> {
         ensures { (ks : List ℕ) → Standing self.now.y.now self.now.z.now found.now n ks → RecordsPut W.form self.now.place self.now.bounds (M.items self.now.mobility) (S.items self.now.axis) self.now.y.now self.now.z.now first out.old out.new n ks }
     {
         for j in 0..n {
-            let a = rowsearch::inner::measured_at(found, j);
+            let a = row_search::inner::measured_at(found, j);
             W::put_record(out, j, self.peak_of(a, first + j as PeakId));
         }
     }
@@ -168,7 +168,7 @@ pub fn list_peaks(
     ensures samples { scratch.new.samples ≡ scratch.old.samples }
     ensures lists { SameLists scratch.old scratch.new }
 {
-    let n = rowsearch::inner::find_apexes(row.y, row.z, p, scratch);
+    let n = row_search::inner::find_apexes(row.y, row.z, p, scratch);
     row.put_peaks::<AsWords>(scratch.found, n, first, out);
     n
 }
@@ -200,7 +200,7 @@ pub fn find_im_peaks_row(
     requires { Writable row.now.y.now row.now.z.now row.now.axis.now first (length out.old) × (all_in_range any_number row.now.y.now ≡ true) × (length row.now.y.now ≤ max_samples) }
     ensures { RecordsPut as_words row.now.place row.now.bounds row.now.mobility.now row.now.axis.now row.now.y.now row.now.z.now first out.old out.new result (kept p row.now.y.now row.now.z.now) }
 {
-    if !rowsearch::inner::reaches_floor(row.z, p.min_prom) {
+    if !row_search::inner::reaches_floor(row.z, p.min_prom) {
         return 0;
     }
     if row.y.len() <= 1024 {

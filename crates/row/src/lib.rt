@@ -8,13 +8,13 @@ pub mod written;
 ghost use Rattle.std.specs.Prelude.{◌≡◌, length};
 ghost use Rattle.refusal.specs.Answers.{answer_by};
 ghost use Rattle.refusal.specs.Numbered.{number_in, says};
-ghost use Rattle.rowsearch.specs.Qualifying.{kept};
+ghost use Rattle.row_search.specs.Qualifying.{kept};
 ghost use Rattle.row.specs.RowNumber.{same_lengths, sound_readings, sound_values, sound_axis, row_number, row_list};
 
 use inner::WordRow;
-use params::ImDetectParams;
-use record::{ImPeak1D, PeakId};
 use refusal::Refusal;
+use row_params::ImDetectParams;
+use row_record::{ImPeak1D, PeakId};
 
 // The parts of the numbers 1, 3, 4 and 5.
 #[tactic(auto, unfolding(crate::specs::RowNumber::same_lengths))]
@@ -22,7 +22,7 @@ fn same_lengths(row: &WordRow<'_>) -> bool
     ensures { result ≡ same_lengths row.now.y.now row.now.z.now row.now.mobility.now row.now.axis.now }
 {
     let n = row.y.len();
-    (row.z.len() == n) & (row.axis.len() == n) & params::inner::lent_or_empty(n, row.mobility)
+    (row.z.len() == n) & (row.axis.len() == n) & row_params::inner::lent_or_empty(n, row.mobility)
 }
 
 #[tactic(auto, unfolding(crate::specs::RowNumber::sound_readings))]
@@ -41,14 +41,14 @@ fn sound_values(row: &WordRow<'_>, p: ImDetectParams, first: PeakId) -> bool
         & numeric::inner::all_in_range(row.mobility, limits::MAX_MOBILITY)
         & row.bounds.is_sound()
         & (row.place.tof_row <= limits::LAST_ROW)
-        & params::inner::enough_ids(first, params::inner::most_peaks(row.y.len()))
+        & row_params::inner::enough_ids(first, row_params::inner::most_peaks(row.y.len()))
 }
 
 #[tactic(auto, unfolding(crate::specs::RowNumber::sound_axis))]
 fn sound_axis(row: &WordRow<'_>) -> bool
     ensures { result ≡ sound_axis row.now.place row.now.axis.now }
 {
-    params::inner::all_up_to(limits::MAX_SCAN, row.axis) & row.place.is_sound()
+    row_params::inner::all_up_to(limits::MAX_SCAN, row.axis) & row.place.is_sound()
 }
 
 // Refuses with the lowest number that applies; `room` is the length of the lent list.
@@ -71,10 +71,10 @@ fn check(row: &WordRow<'_>, p: ImDetectParams, first: PeakId, room: usize) -> Re
     if !sound_axis(row) {
         return Err(Refusal::Axis);
     }
-    if !params::inner::is_rising(row.axis) {
+    if !row_params::inner::is_rising(row.axis) {
         return Err(Refusal::Order);
     }
-    if room < params::inner::most_peaks(row.y.len()) * ImPeak1D::WORDS {
+    if room < row_params::inner::most_peaks(row.y.len()) * ImPeak1D::WORDS {
         return Err(Refusal::Room);
     }
     Ok(())

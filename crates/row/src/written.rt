@@ -1,9 +1,9 @@
 // How records are written to a lent list: as words, or as bytes.
 ghost use Rattle.std.specs.Prelude.{◌≡◌, refl, ℕ, ◌≤◌, ◌+◌, ◌*◌, length};
-ghost use Rattle.record.specs.Record.{size};
+ghost use Rattle.row_record.specs.Record.{size};
 ghost use Rattle.row.specs.Written.{Written, as_words, stride, with_record};
 
-use record::ImPeak1D;
+use row_record::ImPeak1D;
 
 pub trait Written {
     // What stands at a place of the list, and how many places a record takes.
@@ -36,7 +36,7 @@ impl Written for AsWords {
     ghost form = { as_words };
 
     fn put_record(out: &mut [u32], k: usize, p: ImPeak1D) {
-        record::inner::put_peak(out, k, p);
+        row_record::inner::put_peak(out, k, p);
     }
 
     ghost places = { refl };

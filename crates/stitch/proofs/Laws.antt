@@ -21,16 +21,16 @@ use Rattle.refusal.specs.Numbered.{number_of}
 use Rattle.refusal.proofs.NumberedLaws.{number_of-positive, says-err, says-ok}
 use Rattle.refusal.proofs.Bools.{neither, clash}
 use Rattle.limits.specs.Limits.{max_list}
-use Rattle.record.specs.Record.{size}
-use Rattle.peaklist.specs.PeakList.{peaks_of}
-use Rattle.peaklist.proofs.PeakListLaws.{peaks-length}
-use Rattle.matching.specs.declared.StitchParams.{StitchParams}
-use Rattle.keys.specs.declared.KeyRule.TheVariants.{Identity}
-use Rattle.grouping.specs.Grouping.{pass_order}
-use Rattle.distinct.specs.Distinct.{distinct_ids, by_identity}
-use Rattle.distinct.proofs.Laws.{order-length}
-use Rattle.passes.specs.Stitching.{stitched}
-use Rattle.passes.specs.Steps.{Stitched}
+use Rattle.row_record.specs.Record.{size}
+use Rattle.stitch_peaks.specs.PeakList.{peaks_of}
+use Rattle.stitch_peaks.proofs.PeakListLaws.{peaks-length}
+use Rattle.stitch_matching.specs.declared.StitchParams.{StitchParams}
+use Rattle.stitch_keys.specs.declared.KeyRule.TheVariants.{Identity}
+use Rattle.stitch_grouping.specs.Grouping.{pass_order}
+use Rattle.stitch_distinct.specs.Distinct.{distinct_ids, by_identity}
+use Rattle.stitch_distinct.proofs.Laws.{order-length}
+use Rattle.stitch_passes.specs.Stitching.{stitched}
+use Rattle.stitch_passes.specs.Steps.{Stitched}
 use Rattle.stitch.specs.declared.numbers.Rooms.{Rooms}
 use Rattle.stitch.specs.StitchNumber.{count_in, peaks_in, stitch_number, other_number}
 use Rattle.stitch.specs.Answer.{Lent, number_for, Answered}

@@ -10,8 +10,8 @@ use Rattle.refusal.specs.Refusal.{Check, first_of, ascending_from}
 use Rattle.refusal.proofs.Bools.{both}
 use Rattle.refusal.proofs.RefusalLaws.{lowest_by, none-by, applies_for}
 use Rattle.limits.specs.Limits.{max_list}
-use Rattle.distinct.specs.Distinct.{distinct_ids}
-use Rattle.matching.specs.declared.StitchParams.{StitchParams}
+use Rattle.stitch_distinct.specs.Distinct.{distinct_ids}
+use Rattle.stitch_matching.specs.declared.StitchParams.{StitchParams}
 use Rattle.stitch.specs.declared.numbers.Rooms.{Rooms}
 use Rattle.stitch.specs.StitchNumber.{count_in, peaks_in, stitch_checks, stitch_number, but, other_number}
 use Rattle.stitch.specs.StitchNumberLaws.{StitchLowest}

@@ -3,12 +3,12 @@ use Rattle.std.specs.Prelude.{◌≡◌, Bool, Result, List, ◌++◌, ℕ, ◌*
 use Rattle.refusal.specs.declared.Refusal.{Refusal}
 use Rattle.refusal.specs.Answers.{answer_by}
 use Rattle.refusal.specs.Numbered.{says}
-use Rattle.record.specs.Record.{size}
-use Rattle.record.specs.declared.ImPeak1D.{ImPeak1D}
-use Rattle.peaklist.specs.PeakList.{list_words}
-use Rattle.matching.specs.declared.StitchParams.{StitchParams}
-use Rattle.passes.specs.Stitching.{stitched, owners_of}
-use Rattle.passes.specs.declared.Lent.{Lent as LentLists}
+use Rattle.row_record.specs.Record.{size}
+use Rattle.row_record.specs.declared.ImPeak1D.{ImPeak1D}
+use Rattle.stitch_peaks.specs.PeakList.{list_words}
+use Rattle.stitch_matching.specs.declared.StitchParams.{StitchParams}
+use Rattle.stitch_passes.specs.Stitching.{stitched, owners_of}
+use Rattle.stitch_passes.specs.declared.Lent.{Lent as LentLists}
 use Rattle.stitch.specs.declared.numbers.Rooms.{Rooms}
 use Rattle.stitch.specs.StitchNumber.{peaks_in, stitch_number}
 

@@ -2,12 +2,12 @@
 use Rattle.std.specs.Prelude.{Bool, cond, not, ◌&&◌, ◌||◌, List, [], ◌∷◌, ℕ, ◌*◌, ◌/◌, ◌%◌, ltb, eqb, length}
 use Rattle.refusal.specs.Refusal.{Check, first_of}
 use Rattle.limits.specs.Limits.{max_list}
-use Rattle.record.specs.Record.{size, all_sound}
-use Rattle.record.specs.declared.ImPeak1D.{ImPeak1D}
-use Rattle.peaklist.specs.PeakList.{peaks_of}
-use Rattle.matching.specs.Matching.{sound_stitch}
-use Rattle.matching.specs.declared.StitchParams.{StitchParams}
-use Rattle.distinct.specs.Distinct.{distinct_ids}
+use Rattle.row_record.specs.Record.{size, all_sound}
+use Rattle.row_record.specs.declared.ImPeak1D.{ImPeak1D}
+use Rattle.stitch_peaks.specs.PeakList.{peaks_of}
+use Rattle.stitch_matching.specs.Matching.{sound_stitch}
+use Rattle.stitch_matching.specs.declared.StitchParams.{StitchParams}
+use Rattle.stitch_distinct.specs.Distinct.{distinct_ids}
 use Rattle.stitch.specs.declared.numbers.Rooms.{Rooms}
 
 -- how many records a list of words has, and its peaks

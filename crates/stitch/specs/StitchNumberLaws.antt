@@ -1,7 +1,7 @@
 -- What the number of a list to stitch says.
 use Rattle.std.specs.Prelude.{Bool, List, ℕ, ◌<◌}
 use Rattle.refusal.specs.Refusal.{Lowest}
-use Rattle.matching.specs.declared.StitchParams.{StitchParams}
+use Rattle.stitch_matching.specs.declared.StitchParams.{StitchParams}
 use Rattle.stitch.specs.declared.numbers.Rooms.{Rooms}
 use Rattle.stitch.specs.StitchNumber.{stitch_checks, stitch_number}
 

@@ -1,15 +1,15 @@
 // The entry, for a caller that may know a further reason for number 4.
 ghost use Rattle.std.specs.Prelude.{◌≡◌, Bool};
 ghost use Rattle.std.specs.Bool.{then_some};
-ghost use Rattle.matching.specs.declared.StitchParams.{StitchParams};
-ghost use Rattle.passes.specs.Lists.{SameLists};
+ghost use Rattle.stitch_matching.specs.declared.StitchParams.{StitchParams};
+ghost use Rattle.stitch_passes.specs.Lists.{SameLists};
 ghost use Rattle.stitch.specs.Answer.{lent_in, Answered};
 
 use super::numbers::Rooms;
-use matching::StitchParams;
-use passes::Lent;
-use peaklist::Records;
 use refusal::Refusal;
+use stitch_matching::StitchParams;
+use stitch_passes::Lent;
+use stitch_peaks::Records;
 
 // Where there are no parameters number 4 applies: the caller found them wrong.
 pub fn stitch_told(
@@ -24,8 +24,8 @@ pub fn stitch_told(
     // an identity twice is found last, since what finds it leaves the order that stitching starts from
     match super::numbers::check(list, params, Rooms::of(lists)) {
         Ok(params) => {
-            if distinct::inner::put_by_identity(records, lists.order) {
-                return Ok(passes::inner::stitch_peaks(records, params, lists));
+            if stitch_distinct::inner::put_by_identity(records, lists.order) {
+                return Ok(stitch_passes::inner::stitch_peaks(records, params, lists));
             }
             Err(Refusal::Identity)
         }
@@ -33,7 +33,7 @@ pub fn stitch_told(
             if refusal < Refusal::Identity {
                 return Err(refusal);
             }
-            if distinct::inner::all_distinct(records) {
+            if stitch_distinct::inner::all_distinct(records) {
                 return Err(refusal);
             }
             Err(Refusal::Identity)

@@ -5,12 +5,12 @@ pub mod inner;
 pub mod numbers;
 
 ghost use Rattle.std.specs.Prelude.{true};
-ghost use Rattle.passes.specs.Lists.{SameLists};
+ghost use Rattle.stitch_passes.specs.Lists.{SameLists};
 ghost use Rattle.stitch.specs.Answer.{lent_in, Answered};
 
-use matching::StitchParams;
-use passes::Lent;
 use refusal::Refusal;
+use stitch_matching::StitchParams;
+use stitch_passes::Lent;
 
 // Writes the records of the stitched peaks to the front of `out`, and for each peak of the list the place of its stitched one to the
 // front of `owners`; or refuses with the lowest number that applies and leaves all six lists as they are.

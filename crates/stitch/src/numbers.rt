@@ -1,15 +1,15 @@
 // The numbers of a list to stitch.
 ghost use Rattle.std.specs.Prelude.{◌≡◌, Bool, Some, IfOk};
 ghost use Rattle.std.specs.Bool.{then_some};
-ghost use Rattle.matching.specs.declared.StitchParams.{StitchParams};
+ghost use Rattle.stitch_matching.specs.declared.StitchParams.{StitchParams};
 ghost use Rattle.refusal.specs.Numbered.{number_in};
 ghost use Rattle.stitch.specs.StitchNumber.{other_number};
 ghost use Rattle.stitch.specs.Answer.{lent_in, rooms_of};
 
-use matching::StitchParams;
-use passes::Lent;
-use record::ImPeak1D;
 use refusal::Refusal;
+use row_record::ImPeak1D;
+use stitch_matching::StitchParams;
+use stitch_passes::Lent;
 
 // The lengths of the lists that are lent.
 #[derive(Clone, Copy)]
@@ -57,7 +57,7 @@ pub fn check(
     let Some(params) = params.filter(|params| params.is_sound()) else {
         return Err(Refusal::Value);
     };
-    if !record::inner::all_sound(list) {
+    if !row_record::inner::all_sound(list) {
         return Err(Refusal::Record);
     }
     let words = n * ImPeak1D::WORDS;

@@ -1,5 +1,5 @@
 use Rattle.std.proofs.Common.{refl}
-use Rattle.expandone.specs.Runs.{run_lent}
+use Rattle.expand_one.specs.Runs.{run_lent}
 use Rattle.expand.specs.Lists.{lent_in}
 use Rattle.expand.proofs.AloneLaws.{one-answered-by}
 use Rattle.expand.proofs.expand_im_peak_along_rt.Goals as goal

@@ -1,7 +1,7 @@
 use Rattle.std.proofs.Common.{◌≡◌, sym, ◌<◌, length, arith}
 use Rattle.refusal.proofs.NumberedLaws.{err-is}
-use Rattle.expandmany.specs.Many.{Many}
-use Rattle.expandmany.specs.Calls.{many_lent}
+use Rattle.expand_many.specs.Many.{Many}
+use Rattle.expand_many.specs.Calls.{many_lent}
 use Rattle.expand.specs.ExpandCall.{Lent, many_number}
 use Rattle.expand.specs.Lists.{lent_in}
 use Rattle.expand.proofs.CallLaws.{followed, as-many, ready, lendable, short, answered, refused}

@@ -1,7 +1,7 @@
 use mathlib.Core.Path.{sym}
 use lib.ListN.{length}
-use Rattle.gridrows.specs.Grid.{Grid}
-use Rattle.gridrows.specs.Steps.{call_grid}
+use Rattle.grid_rows.specs.Grid.{Grid}
+use Rattle.grid_rows.specs.Steps.{call_grid}
 use Rattle.refusal.proofs.NumberedLaws.{err-is}
 use Rattle.grid.proofs.Laws.{seen-number, Accepted, accepted, answered, refused}
 use Rattle.grid.proofs.detect_im_peaks_from_tof_scan_grid.Goals.{In_ok-check}

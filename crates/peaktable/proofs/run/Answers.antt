@@ -3,8 +3,8 @@ use mathlib.Core.List.{[], ◌++◌}
 use native.Mathlib.Omega.{arith}
 use lib.ListN.{length}
 use borrow.Author.Tests.{not-true, not-false}
-use Rattle.tablejob.specs.Stands.{held, Within, Ready}
-use Rattle.tablejob.proofs.Laws.{stands-first, stands_read, stands-written, ends-refused, within_first, within-written, within-read, stands-end}
+use Rattle.table_job.specs.Stands.{held, Within, Ready}
+use Rattle.table_job.proofs.Laws.{stands-first, stands_read, stands-written, ends-refused, within_first, within-written, within-read, stands-end}
 use Rattle.peaktable.proofs.run.Goals.{then-out-job-lt-LINE_ROOM+in_ok-write_all, else-out-job-lt-LINE_ROOM+in-Ok}
 use Rattle.peaktable.proofs.run.Goals as goal
 

@@ -3,7 +3,7 @@ use mathlib.Core.Bool.{true}
 use mathlib.Core.List.{List}
 use Prim.Native.Nat.{ℕ}
 use lib.ListN.{length}
-use Rattle.tablejob.specs.Stands.{Within, Stands}
+use Rattle.table_job.specs.Stands.{Within, Stands}
 use Rattle.peaktable.proofs.run.Given as goal
 
 abbrev pub invariant-loop : goal.invariant-loop

@@ -1,5 +1,5 @@
 use mathlib.Core.Path.{sym, ◌∙◌}
-use Rattle.rowsearch.proofs.QualifyingLaws.{kept_low}
+use Rattle.row_search.proofs.QualifyingLaws.{kept_low}
 use Rattle.row.proofs.Laws.{none-words}
 use Rattle.row.proofs.inner.find_im_peaks_row.Goals as goal
 

@@ -1,7 +1,7 @@
 use native.Mathlib.Omega.{arith}
 use lib.ListN.{length}
-use Rattle.rowsearch.specs.Qualifying.{kept}
-use Rattle.rowsearch.proofs.QualifyingLaws.{kept-count}
+use Rattle.row_search.specs.Qualifying.{kept}
+use Rattle.row_search.proofs.QualifyingLaws.{kept-count}
 use Rattle.row.proofs.inner.list_peaks.Goals as goal
 
 pub put_peaks-requires : goal.put_peaks-requires

@@ -10,9 +10,9 @@ use Rattle.std.specs.Bool.{then_some}
 use Rattle.refusal.specs.declared.Refusal.TheVariants.{Identity}
 use Rattle.refusal.specs.Numbered.{number_of}
 use Rattle.refusal.proofs.NumberedLaws.{number_of-positive}
-use Rattle.peaklist.specs.PeakList.{peaks_of}
-use Rattle.matching.specs.declared.StitchParams.{StitchParams}
-use Rattle.distinct.specs.Distinct.{by_identity, distinct_ids}
+use Rattle.stitch_peaks.specs.PeakList.{peaks_of}
+use Rattle.stitch_matching.specs.declared.StitchParams.{StitchParams}
+use Rattle.stitch_distinct.specs.Distinct.{by_identity, distinct_ids}
 use Rattle.stitch.specs.StitchNumber.{count_in, peaks_in, other_number}
 use Rattle.stitch.specs.Answer.{Lent, lent, lent_in, rooms_of, Answered}
 use Rattle.stitch.proofs.StitchNumberLaws.{where-distinct, where-lower, where-repeated, not-many}

@@ -1,7 +1,7 @@
 use mathlib.Core.Path.{refl, ◌∙◌, ap}
 use Prim.Native.Nat.{ℕ, ◌+◌}
 use native.Mathlib.Omega.{arith}
-use Rattle.rowsearch.proofs.Laws.{next, none_yet}
+use Rattle.row_search.proofs.Laws.{next, none_yet}
 use Rattle.row.proofs.Laws.{next-listed, listed-none, read-inside, read_is, record-fits}
 use Rattle.row.specs.Row.{peak_of}
 use Rattle.row.proofs.inner.Row.put_peaks.Goals as goal

@@ -1,7 +1,7 @@
 use mathlib.Core.Path.{◌≡◌}
 use mathlib.Core.List.{List}
 use Prim.Native.Nat.{ℕ, ◌≤◌, ◌-◌}
-use Rattle.rowsearch.specs.Found.{Standing, oldest}
+use Rattle.row_search.specs.Found.{Standing, oldest}
 use Rattle.row.specs.Steps.{RecordsPut}
 use lib.ListN.{length}
 use Rattle.row.proofs.inner.Row.put_peaks.Given as goal

@@ -1,4 +1,0 @@
--- The definitions that the contracts of `area` cite, what is proved of them, and worked cases.
-pub mod Area
-pub mod AreaLaws
-pub mod Cases

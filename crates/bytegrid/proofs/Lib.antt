@@ -1,2 +1,0 @@
--- The laws that the proofs of `bytegrid` use.
-pub mod Laws

@@ -1,5 +1,0 @@
-use Prim.Native.Nat.{◌-◌}
-use Rattle.bytegrid.proofs.sized.+detect_bytes.Given as goal
-
-abbrev pub decreases-detect_bytes : goal.decreases-detect_bytes
-decreases-detect_bytes l = l.rows.end - l.rows.start

@@ -1,2 +1,0 @@
--- The definitions that the contracts of `bytegrid` cite.
-pub mod ByteGrid

@@ -1,8 +1,0 @@
-use mathlib.Core.Path.{sym}
-use Prim.Native.Nat.{◌/◌}
-use lib.ListN.{length}
-use Rattle.wordbytes.proofs.BytesLaws.{words-length}
-use Rattle.byterows.proofs.records.BytesColumnU32.count.Goals as goal
-
-pub returns : goal.returns
-returns c = sym (words-length c.args.self.list.now (length c.args.self.list.now / 4))

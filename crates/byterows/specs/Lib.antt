@@ -1,3 +1,0 @@
--- The definitions that the contracts of `byterows` cite.
-pub mod AsBytes
-pub mod Call

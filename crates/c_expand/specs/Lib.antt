@@ -1,0 +1,2 @@
+-- The definitions that the contracts of `c_expand` cite.
+pub mod Expansion

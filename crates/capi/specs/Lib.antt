@@ -1,3 +1,0 @@
--- The definitions that the contracts of `capi` cite.
-pub mod Entry
-pub mod Stitching

@@ -1,9 +1,0 @@
-use mathlib.Core.Path.{sym, ap, ◌∙◌}
-use lib.Ieee.{Float, lt}
-use Rattle.numeric.specs.Arith.{◌⊖◌}
-use Rattle.chosen.proofs.Laws.{higher-side}
-use Rattle.chosen.proofs.inner.is_near.Goals as goal
-
-pub returns : goal.returns
-returns c =
-    ap (λ (x : Float). lt x c.args.sep) c.max.ensures ∙ sym (higher-side (c.args.a ⊖ c.args.b) c.args.sep)

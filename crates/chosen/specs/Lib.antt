@@ -1,5 +1,0 @@
--- The definitions that the contracts of `chosen` cite, what is proved of them, and worked cases.
-pub mod Chosen
-pub mod Ranking
-pub mod Times
-pub mod Cases

@@ -1,0 +1,2 @@
+-- What the proofs of `expand_numbers` cite.
+pub mod Laws

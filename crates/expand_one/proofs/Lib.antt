@@ -1,0 +1,2 @@
+-- What the proofs of `expand_one` cite.
+pub mod Laws

@@ -1,0 +1,3 @@
+-- The definitions that the contracts of `expand_one` cite.
+pub mod Steps
+pub mod Runs

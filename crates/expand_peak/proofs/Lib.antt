@@ -1,0 +1,2 @@
+-- What the proofs of `expand_peak` cite.
+pub mod Laws

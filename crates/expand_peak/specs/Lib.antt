@@ -1,0 +1,3 @@
+-- The definitions that the contracts of `expand_peak` cite.
+pub mod Expanded
+pub mod Steps

@@ -1,0 +1,2 @@
+-- What the proofs of `expand_window` cite.
+pub mod WindowLaws

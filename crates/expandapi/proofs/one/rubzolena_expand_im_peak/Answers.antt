@@ -1,7 +1,0 @@
-use native.Mathlib.Omega.{arith}
-use Rattle.expandapi.proofs.ExpandWords.{one-fits}
-use Rattle.expandapi.proofs.one.rubzolena_expand_im_peak.Goals as goal
-
-pub word_of-requires : goal.word_of-requires
-word_of-requires c = let f = c.expand_im_peak_along_rt-answer in
-    one-fits f.ensures.answer f.ensures.same.4 (omega (arith, c.well_formed))

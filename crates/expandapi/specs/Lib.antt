@@ -1,2 +1,0 @@
--- The definitions that the contracts of `expandapi` cite.
-pub mod Expansion

@@ -1,6 +1,0 @@
-// The C entries of expansion, the second call, which the archive libexpandapi.a exports under the names of include/rubzolena.h. Each
-// calls the function of expandapi of the same name and states its clauses again.
-#![tactic(auto)]
-
-pub mod many;
-pub mod one;

@@ -1,2 +1,0 @@
--- What the proofs of `expandnumbers` cite.
-pub mod Laws

@@ -1,2 +1,0 @@
--- The definitions that the contracts of `expandnumbers` cite.
-pub mod ExpandNumber

@@ -1,2 +1,0 @@
--- What the proofs of `expandone` cite.
-pub mod Laws

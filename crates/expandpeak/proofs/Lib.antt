@@ -1,2 +1,0 @@
--- What the proofs of `expandpeak` cite.
-pub mod Laws

@@ -1,3 +1,0 @@
--- The definitions that the contracts of `expandpeak` cite.
-pub mod Expanded
-pub mod Steps

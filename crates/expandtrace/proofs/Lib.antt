@@ -1,3 +1,0 @@
--- What the proofs of `expandtrace` cite, and laws of what is written for those who go on from it.
-pub mod Laws
-pub mod Peaks

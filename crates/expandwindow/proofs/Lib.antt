@@ -1,2 +1,0 @@
--- What the proofs of `expandwindow` cite.
-pub mod WindowLaws

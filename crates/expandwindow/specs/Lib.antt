@@ -1,4 +1,0 @@
--- The definitions that the contracts of `expandwindow` cite, what is proved of them, and worked cases.
-pub mod Window
-pub mod WindowLaws
-pub mod Cases

@@ -1,5 +1,0 @@
--- The definitions that the contracts of `fallback` cite, what is proved of them, and worked cases.
-pub mod Fallback
-pub mod FallbackNumber
-pub mod FallbackNumberLaws
-pub mod Cases

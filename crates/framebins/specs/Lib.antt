@@ -1,5 +1,0 @@
--- The definitions that the contracts of `framebins` cite, and worked cases.
-pub mod FrameBins
-pub mod Steps
-pub mod Cases
-pub mod Lists

@@ -1,5 +1,0 @@
--- The definitions that the contracts of `frameindex` cite, what is proved of them, and worked cases.
-pub mod FrameIndex
-pub mod IndexNumber
-pub mod IndexNumberLaws
-pub mod Cases

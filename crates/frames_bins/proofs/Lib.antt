@@ -1,0 +1,4 @@
+-- The laws that the proofs of `frames_bins` share.
+pub mod Laws
+pub mod Quotient
+pub mod Straight

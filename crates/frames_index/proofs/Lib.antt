@@ -1,0 +1,3 @@
+-- What the proofs of `frames_index` cite, and laws for those who read a checked index.
+pub mod Laws
+pub mod IndexNumberLaws

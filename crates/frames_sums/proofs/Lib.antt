@@ -1,0 +1,3 @@
+-- What the proofs of `frames_sums` cite, and laws of sums for those who go on from them.
+pub mod Laws
+pub mod InRange

@@ -1,0 +1,2 @@
+-- What the proofs of `frames_window_sums` cite.
+pub mod Laws

@@ -1,0 +1,3 @@
+-- The definitions that the contracts of `frames_windows` cite, and worked cases.
+pub mod Windows
+pub mod Cases

@@ -1,8 +1,0 @@
-// The C entries of the frame index, marginals and retention traces, which the archive libframesapi.a exports under the names of
-// include/rubzolena.h. Each calls the function of framesapi of the same name and states its clauses again.
-#![tactic(auto)]
-
-pub mod blocks;
-pub mod lists;
-pub mod peaks;
-pub mod view;

@@ -1,0 +1,2 @@
+-- The laws that the proofs of `grid_byte_rows` use.
+pub mod Laws

@@ -1,0 +1,3 @@
+-- The definitions that the contracts of `grid_byte_rows` cite.
+pub mod AsBytes
+pub mod Call

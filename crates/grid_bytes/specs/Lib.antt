@@ -1,0 +1,2 @@
+-- The definitions that the contracts of `grid_bytes` cite.
+pub mod ByteGrid

@@ -1,5 +1,0 @@
--- The definitions that the contracts of `grouping` cite, what is proved of them, and worked cases.
-pub mod Cases
-pub mod Grouping
-pub mod GroupingLaws
-pub mod Walk

@@ -1,2 +1,0 @@
--- Lemmas of `leading`.
-pub mod Laws

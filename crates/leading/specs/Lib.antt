@@ -1,2 +1,0 @@
--- The definitions that the contracts of `leading` cite.
-pub mod Leads

@@ -1,6 +1,0 @@
-use Rattle.std.proofs.Common.{◌≡◌, length}
-use Rattle.linefault.proofs.Laws.{Seen}
-use Rattle.linefault.proofs.count_fields.Given as goal
-
-abbrev pub invariant-loop-text : goal.invariant-loop-text
-invariant-loop-text l = (l.count ≡ length l.yielded) × Seen l.kind l.line l.count l.at

@@ -1,4 +1,0 @@
--- The definitions that the contracts of `matching` cite, and worked cases.
-pub mod Matching
-pub mod Group
-pub mod Cases

@@ -1,7 +1,0 @@
-use Rattle.merging.proofs.Laws.{highest-join}
-use Rattle.merging.specs.Walk.{heights_of}
-use Rattle.merging.proofs.inner.Heights.join.Goals as goal
-
-pub returns : goal.returns
-unfolding heights_of
-returns c = λ ps h. simp (c.max-3.ensures, c.max-2.ensures, c.max.ensures, h, highest-join)

@@ -1,8 +1,0 @@
-use Rattle.merging.proofs.Laws.{sum-join}
-use Rattle.merging.specs.Walk.{sums_of}
-use Rattle.merging.proofs.inner.Sums.join.Goals as goal
-
-pub returns : goal.returns
-unfolding sums_of
-returns c = λ ps h.
-    simp (c.weight_of-weight.ensures, c.of_u32.ensures, c.of_u32-2.ensures, c.of_u32-3.ensures, c.of_u32-4.ensures, h, sum-join)

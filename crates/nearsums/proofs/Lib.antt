@@ -1,2 +1,0 @@
--- What the proofs of `nearsums` cite.
-pub mod Laws

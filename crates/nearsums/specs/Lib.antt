@@ -1,2 +1,0 @@
--- The definitions that the contracts of `nearsums` cite, besides those of `framesums`.
-pub mod Steps

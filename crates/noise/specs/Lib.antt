@@ -1,4 +1,0 @@
--- The definitions that the contracts of `noise` cite, what is proved of them, and worked cases.
-pub mod Noise
-pub mod NoiseLaws
-pub mod Cases

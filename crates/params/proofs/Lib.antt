@@ -1,2 +1,0 @@
--- What the proofs of `params` cite.
-pub mod Laws

@@ -1,7 +1,0 @@
-use Rattle.std.proofs.Common.{◌∙◌, ltb}
-use Rattle.std.proofs.iter.Serving.{serving}
-use Rattle.params.proofs.Laws.{rising-fold}
-use Rattle.params.proofs.inner.is_rising.Goals as goal
-
-pub returns : goal.returns
-returns c = c.all_neighbours.ensures ltb (λ x y r p. grind serving) ∙ rising-fold c.args.axis.now

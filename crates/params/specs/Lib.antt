@@ -1,2 +1,0 @@
--- The definitions that the contracts of `params` cite.
-pub mod Params

@@ -1,2 +1,0 @@
--- The definitions that the contracts of `probe` cite.
-pub mod Probe

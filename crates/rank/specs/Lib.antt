@@ -1,4 +1,0 @@
--- The definitions that the contracts of `rank` cite, what is proved of them, and worked cases.
-pub mod Rank
-pub mod RankLaws
-pub mod Cases

@@ -1,3 +1,0 @@
--- The definitions that the contracts of `record` cite, and what is proved of them.
-pub mod Record
-pub mod RoundTrip

@@ -1,3 +1,0 @@
--- The definitions that the contracts of `replay_stitching` cite.
-pub mod Replay
-pub mod Steps

@@ -1,0 +1,5 @@
+-- The definitions that the contracts of `row_baselines` cite.
+pub mod Lows
+pub mod LowsCases
+pub mod Stack
+pub mod Searched

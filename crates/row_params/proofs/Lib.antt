@@ -1,0 +1,2 @@
+-- What the proofs of `row_params` cite.
+pub mod Laws

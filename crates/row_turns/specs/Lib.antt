@@ -1,0 +1,2 @@
+-- The definitions that the contracts of `row_turns` cite.
+pub mod Turns

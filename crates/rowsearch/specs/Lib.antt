@@ -1,9 +1,0 @@
--- The definitions that the contracts of `rowsearch` cite, and what is proved of them.
-pub mod Qualifying
-pub mod Suppression
-pub mod Account
-pub mod QualifyingLaws
-pub mod Room
-pub mod SameLists
-pub mod Found
-pub mod Cases

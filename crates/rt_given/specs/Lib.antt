@@ -1,0 +1,2 @@
+-- The definitions that the contracts of `rt_given` cite.
+pub mod Given

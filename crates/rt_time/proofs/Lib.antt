@@ -1,0 +1,2 @@
+-- What the proofs of `rt_time` cite.
+pub mod Laws

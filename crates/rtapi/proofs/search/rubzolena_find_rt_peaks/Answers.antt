@@ -1,7 +1,0 @@
-use native.Mathlib.Omega.{arith}
-use borrow.Author.Rules.{rules}
-use Rattle.rtapi.proofs.SearchWords.{search-fits}
-use Rattle.rtapi.proofs.search.rubzolena_find_rt_peaks.Goals as goal
-
-pub word_of-requires : goal.word_of-requires
-word_of-requires c = let f = c.find_rt_peaks-answer in search-fits f.ensures (search rules) (omega (arith, c.well_formed))

@@ -1,5 +1,0 @@
--- The definitions that the contracts of `rtapi` cite.
-pub mod Noise
-pub mod Window
-pub mod Fallback
-pub mod Search

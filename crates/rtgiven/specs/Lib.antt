@@ -1,2 +1,0 @@
--- The definitions that the contracts of `rtgiven` cite.
-pub mod Given

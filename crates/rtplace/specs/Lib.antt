@@ -1,4 +1,0 @@
--- The definitions that the contracts of `rtplace` cite, what is proved of them, and worked cases.
-pub mod Placed
-pub mod PlacedLaws
-pub mod Cases

@@ -1,9 +1,0 @@
-use mathlib.Core.Path.{◌∙◌}
-use Prim.Native.Nat.{◌*◌}
-use Rattle.rtrecord.specs.RtRecord.{local_size}
-use Rattle.rtrecord.proofs.Laws.{part, own-local}
-use Rattle.rtrecord.proofs.inner.local_at.Goals as goal
-
-pub returns : goal.returns
-returns c = let l = c.args.list.now in
-    c.first_local.ensures ∙ own-local _ l 0 (c.args.k * local_size) (part local_size l (c.args.k * local_size) c.requires)

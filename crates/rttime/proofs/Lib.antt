@@ -1,2 +1,0 @@
--- What the proofs of `rttime` cite.
-pub mod Laws

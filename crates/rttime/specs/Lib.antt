@@ -1,3 +1,0 @@
--- The definitions that the contracts of `rttime` cite, and worked cases.
-pub mod Time
-pub mod Cases

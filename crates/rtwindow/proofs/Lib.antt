@@ -1,2 +1,0 @@
--- What the proofs of `rtwindow` cite, and laws of windows for those who go on from them.
-pub mod Laws

@@ -1,2 +1,0 @@
--- What the proofs of `scansums` cite.
-pub mod Laws

@@ -1,6 +1,0 @@
-use Rattle.std.proofs.Common.{◌-◌}
-use Rattle.scansums.proofs.Laws.{Summing}
-use Rattle.scansums.proofs.inner.put_scan_sums.Given as goal
-
-abbrev pub invariant-loop-f : goal.invariant-loop-f
-invariant-loop-f l = Summing l.ix l.w l.fn.frames.from l.fn.frames.count l.initial.out (l.f - l.fn.frames.from) l.out

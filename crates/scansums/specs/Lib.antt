@@ -1,3 +1,0 @@
--- The definitions that the contracts of `scansums` cite, and worked cases.
-pub mod Steps
-pub mod Cases

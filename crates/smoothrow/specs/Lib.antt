@@ -1,2 +1,0 @@
--- The definitions that the contracts of `smoothrow` cite.
-pub mod SmoothRow

@@ -1,2 +1,0 @@
--- What the proofs of `spans` and of the crates above it cite.
-pub mod Laws

@@ -1,8 +1,0 @@
-use Rattle.numeric.proofs.Patterns.{no_nan}
-use Rattle.std.proofs.Common.{◌*◌}
-use lib.ListN.{get_or}
-use lib.Ieee.{nan}
-use Rattle.sweep.proofs.inner.Sweep.valley.Goals as goal
-
-pub float_to_bits-result : goal.float_to_bits-result
-float_to_bits-result c = let i = get_or c.args.self.turns.now (2 * c.args.j) 0 in rw (no_nan (get_or c.args.self.y.now i nan) (c.args.self.marked.plain i (c.args.self.marked.valleys c.args.j c.requires)).ranged) tt

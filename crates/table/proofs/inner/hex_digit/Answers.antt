@@ -1,5 +1,0 @@
-use Rattle.table.proofs.Facts.{hex_places}
-use Rattle.table.proofs.inner.hex_digit.Goals as goal
-
-pub returns : goal.returns
-returns c = hex_places c.args.d c.requires

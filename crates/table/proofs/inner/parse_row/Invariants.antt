@@ -1,6 +1,0 @@
-use Rattle.std.proofs.Common.{◌≡◌, length}
-use Rattle.table.proofs.Laws.{Got}
-use Rattle.table.proofs.inner.parse_row.Given as goal
-
-abbrev pub invariant-loop-field : goal.invariant-loop-field
-invariant-loop-field l = (l.count ≡ length l.yielded) × (length l.row ≡ length l.initial.row) × Got l.line l.initial.row l.row l.count

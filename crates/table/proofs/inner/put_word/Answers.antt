@@ -1,7 +1,0 @@
-use Rattle.table.specs.Print.{hex8}
-use Rattle.table.proofs.Buffers.{put-part}
-use mathlib.Core.Path.{refl}
-use Rattle.table.proofs.inner.put_word.Goals as goal
-
-pub returns : goal.returns
-returns c = record { value = refl; out_after = put-part c.args.out.now (hex8 c.args.w) c.put_hex.new.out c.args.at 8 refl c.put_hex.ensures }

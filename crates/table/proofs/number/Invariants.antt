@@ -1,6 +1,0 @@
-use Rattle.std.proofs.Common.{◌^◌, ◌<◌, drop}
-use Rattle.table.proofs.Laws.{Counted}
-use Rattle.table.proofs.number.Given as goal
-
-abbrev pub invariant-loop-b : goal.invariant-loop-b
-invariant-loop-b l = (l.value < 10 ^ l.b-index) × Counted l.limit l.field l.value (drop l.b-index l.field)

@@ -1,0 +1,2 @@
+-- What the proofs of `table_job` share.
+pub mod Laws

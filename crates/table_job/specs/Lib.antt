@@ -1,0 +1,2 @@
+-- What the contracts of `table_job` cite.
+pub mod Stands

@@ -1,0 +1,48 @@
+use borrow.Author.Tests.{eqb-true, eqb-false, leb-true}
+use Rattle.refusal.proofs.Bools.{both}
+use Rattle.table_text.proofs.Laws.{nonzero, digits-bound, number-start, number-none, number-long, number-next, number-bad, number-end, digits_more, some-if}
+use Rattle.std.proofs.Common.{sym, ◌∙◌, ◌≤◌, leb, length, get_or, arith, lit<}
+use Rattle.table_text.proofs.number.Goals as goal
+use Rattle.table_text.proofs.number.Goals.{then-is_empty-via-then-is_empty, then-is_empty-via-else-is_empty+then-field-gt8}
+
+pub returns-then-is_empty : goal.returns-then-is_empty
+returns-then-is_empty c =
+    let f = c.args.field.now in
+    elim c.then-is_empty.branch [
+      | then-is_empty-via-then-is_empty w ↦ rw (number-none c.args.limit f (eqb-true _ _ (sym c.is_empty.ensures ∙ w.if-is_empty.true)))
+      | then-is_empty-via-else-is_empty+then-field-gt8 w ↦ rw (number-long c.args.limit f w.if-field-gt8.true)
+    ]
+
+pub loop-b-init : goal.loop-b-init
+loop-b-init c =
+    let n = c.args.field.now in
+    let some : 1 ≤ length n = nonzero (length n) (eqb-false _ _ (sym c.is_empty.ensures ∙ c.if-is_empty.false)) in
+    (lit< tt, number-start c.args.limit n some (omega arith))
+
+pub returns-then-not-is_ascii_digit : goal.returns-then-not-is_ascii_digit
+returns-then-not-is_ascii_digit c =
+    let o = c.loop-b in
+    rw (number-bad c.args.limit c.args.field.now o.value o.b-index o.invariant.1 (omega arith) (sym c.is_ascii_digit.ensures.value ∙ c.if-not-is_ascii_digit.true))
+
+pub with_digit-value-requires : goal.with_digit-value-requires
+with_digit-value-requires c =
+    let o = c.loop-b in
+    let b = get_or c.args.field.now o.b-index 0 in
+    let e = sym c.is_ascii_digit.ensures.value ∙ c.if-not-is_ascii_digit.false in
+    (digits-bound o.value o.b-index 7 o.invariant.0 (omega arith), leb-true 48 b (both (leb 48 b) e).0)
+
+pub loop-b-preserved : goal.loop-b-preserved
+loop-b-preserved c =
+    let o = c.loop-b in
+    let b = get_or c.args.field.now o.b-index 0 in
+    let e = sym c.is_ascii_digit.ensures.value ∙ c.if-not-is_ascii_digit.false in
+    rw c.with_digit-value.ensures (
+      digits_more o.value o.b-index b o.invariant.0 (leb-true b 57 (both (leb 48 b) e).1),
+      number-next c.args.limit c.args.field.now o.value o.b-index o.invariant.1 (omega arith) e,
+    )
+
+pub returns : goal.returns
+returns c =
+    let o = c.loop-b in
+    let e = number-end c.args.limit c.args.field.now o.value o.b-index o.invariant.1 (omega arith) in
+    rw (c.then_some.ensures, e.0, e.1) (some-if _ _)

@@ -1,2 +1,0 @@
--- What the proofs of `tablejob` share.
-pub mod Laws

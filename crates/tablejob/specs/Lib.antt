@@ -1,2 +1,0 @@
--- What the contracts of `tablejob` cite.
-pub mod Stands

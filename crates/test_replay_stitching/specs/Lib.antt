@@ -1,0 +1,3 @@
+-- The definitions that the contracts of `test_replay_stitching` cite.
+pub mod Replay
+pub mod Steps

@@ -1,2 +1,0 @@
--- The definitions that the contracts of `turns` cite.
-pub mod Turns

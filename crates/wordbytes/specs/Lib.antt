@@ -1,4 +1,0 @@
--- The definitions that the contracts of `wordbytes` cite, what is proved of them, and worked cases.
-pub mod Bytes
-pub mod BytesLaws
-pub mod Cases
