@@ -3,7 +3,7 @@ ghost use Rattle.std.specs.Prelude.{◌≡◌};
 ghost use Rattle.frames_index.specs.FrameIndex.{index_of};
 ghost use Rattle.expand_peak.specs.Expanded.{run_of};
 ghost use Rattle.expand.specs.ExpandCall.{lent_of};
-ghost use Rattle.rt_given.specs.Given.{params_of};
+ghost use Rattle.rt_params.specs.Given.{params_of};
 ghost use Rattle.c_expand.specs.Expansion.{scale_of, OneTold};
 
 use c_word::word_of;
@@ -56,7 +56,7 @@ pub extern "C" fn rubzolena_expand_im_peak(
         tof_step,
         num_bins,
     };
-    let params = rt_given::expand_params(
+    let params = rt_params::given::expand_params(
         bin_pad,
         smooth_sigma_sec,
         min_prom_kind,

@@ -3,7 +3,7 @@ ghost use Rattle.frames_sums.specs.Steps.{index_of};
 ghost use Rattle.expand_peak.specs.Expanded.{run_of};
 ghost use Rattle.expand_many.specs.Many.{many_of};
 ghost use Rattle.expand.specs.ExpandCall.{lent_of};
-ghost use Rattle.rt_given.specs.Given.{params_of};
+ghost use Rattle.rt_params.specs.Given.{params_of};
 ghost use Rattle.c_expand.specs.Expansion.{scale_of, ManyTold};
 
 // Writes the records of all mobility peaks' retention peaks, one after another, to the front of `out` and the count of each mobility

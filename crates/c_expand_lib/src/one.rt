@@ -2,7 +2,7 @@
 ghost use Rattle.frames_sums.specs.Steps.{index_of};
 ghost use Rattle.expand_peak.specs.Expanded.{run_of};
 ghost use Rattle.expand.specs.ExpandCall.{lent_of};
-ghost use Rattle.rt_given.specs.Given.{params_of};
+ghost use Rattle.rt_params.specs.Given.{params_of};
 ghost use Rattle.c_expand.specs.Expansion.{scale_of, OneTold};
 
 // Writes the records of a mobility peak's retention peaks to the front of `out` and answers 64 times their count, or answers with a number

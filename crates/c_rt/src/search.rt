@@ -1,6 +1,6 @@
 // The retention peaks of a trace as a C function on numbers and lists. Each list is an argument of its own.
 ghost use Rattle.rt_peaks.specs.Trace.{call_of};
-ghost use Rattle.rt_given.specs.Given.{threshold_of};
+ghost use Rattle.rt_params.specs.Given.{threshold_of};
 ghost use Rattle.c_rt.specs.Search.{Answered};
 
 use rt_apex::inner::Trace;
@@ -29,7 +29,7 @@ pub extern "C" fn rubzolena_find_rt_peaks(
         times,
     };
     let asked = RtSearch {
-        min_prom: rt_given::threshold(min_prom_kind, min_prom),
+        min_prom: rt_params::given::threshold(min_prom_kind, min_prom),
         min_sep_sec,
         min_width_sec,
     };

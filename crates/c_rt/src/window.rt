@@ -2,7 +2,7 @@
 ghost use Rattle.std.specs.Prelude.{◌≡◌, [], ◌∷◌, ◌++◌, ◌≤◌, length, drop};
 ghost use Rattle.std.specs.Float.{binary32};
 ghost use Rattle.std.specs.Float.Ieee.{to_bits};
-ghost use Rattle.rt_given.specs.Given.{params_of};
+ghost use Rattle.rt_params.specs.Given.{params_of};
 ghost use Rattle.refusal.specs.Answers.{answer_by};
 ghost use Rattle.refusal.specs.Numbered.{says};
 ghost use Rattle.row_record.specs.Record.{peak_at};
@@ -65,7 +65,7 @@ pub extern "C" fn rubzolena_expand_window(
         (params_of bin_pad smooth_sigma_sec min_prom_kind min_prom min_sep_sec min_width_sec fallback_if_frames_lt fallback_frac_width rt_pad_frames)
         out.old out.new result }
 {
-    let params = rt_given::expand_params(
+    let params = rt_params::given::expand_params(
         bin_pad,
         smooth_sigma_sec,
         min_prom_kind,

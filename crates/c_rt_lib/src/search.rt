@@ -1,6 +1,6 @@
 // The retention peaks of a trace.
 ghost use Rattle.rt_peaks.specs.Trace.{call_of};
-ghost use Rattle.rt_given.specs.Given.{threshold_of};
+ghost use Rattle.rt_params.specs.Given.{threshold_of};
 ghost use Rattle.c_rt.specs.Search.{Answered};
 
 // Writes the records of a trace's retention peaks to the front of `out` and answers 64 times their count, or answers with a number and

@@ -1,5 +1,5 @@
 // The first call of expansion.
-ghost use Rattle.rt_given.specs.Given.{params_of};
+ghost use Rattle.rt_params.specs.Given.{params_of};
 ghost use Rattle.c_rt.specs.Window.{Answered};
 
 // Writes the window of a peak, the first frame, the last and the bits of sigma, to the front of `out` and answers 64, or answers 0 where

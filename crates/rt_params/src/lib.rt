@@ -1,6 +1,8 @@
 // What expansion along the retention time is told: thresholds and parameters.
 #![tactic(auto)]
 
+pub mod given;
+
 ghost use Rattle.std.specs.Prelude.{◌≡◌};
 ghost use Rattle.rt_params.specs.Modes.{effective_f, default_mode, sound_mode};
 ghost use Rattle.rt_params.specs.Expand.{defaults, legacy_defaults, with_mode, sound_expand};

@@ -8,7 +8,7 @@ use lib.Ieee.{Float, neg, to_bits, of_bits}
 use Rattle.numeric.specs.Numeric.{in_range}
 use Rattle.rt_params.specs.Modes.{sound_mode}
 use Rattle.rt_params.specs.Expand.{sound_expand, count, seconds, is_fraction}
-use Rattle.rt_given.specs.Given.{threshold_of, UnknownKind}
+use Rattle.rt_params.specs.Given.{threshold_of, UnknownKind}
 
 unsound-mode : (kind : ℕ) (v : Float) → 1 < kind → sound_mode (threshold_of kind v) ≡ false
 unfolding sound_mode in_range neg to_bits of_bits

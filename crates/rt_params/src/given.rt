@@ -1,10 +1,8 @@
 // Thresholds and parameters that are handed over as numbers.
-#![tactic(auto)]
-
 ghost use Rattle.std.specs.Prelude.{◌≡◌};
-ghost use Rattle.rt_given.specs.Given.{threshold_of, params_of};
+ghost use Rattle.rt_params.specs.Given.{threshold_of, params_of};
 
-use rt_params::{RtExpandParams, ThresholdMode};
+use crate::{RtExpandParams, ThresholdMode};
 
 // A threshold by the number of its kind. An unknown kind stands for a value that is out of range, and is no error of its own: number 4
 // has to come behind the lower ones, which look at other input.

@@ -1,2 +1,0 @@
--- The definitions that the contracts of `rt_given` cite.
-pub mod Given
