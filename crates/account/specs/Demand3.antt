@@ -1,6 +1,6 @@
 -- Demand 3: no qualifying apex goes missing unexplained. The terms of document 01 first, then what holds of grids, of stitching and of
 -- expansion, and at the end the demand in one statement. It speaks of what the public functions hand back, and asks nothing but that what was
--- handed in was accepted: that the answer is a count. Proved in proofs/Demand3.antt. Worked cases, which show that there is something to
+-- handed in was accepted: that the answer is a count. Each part names its proofs. Worked cases, which show that there is something to
 -- explain, stand in specs/Cases.antt. docs/ACCOUNT.md leads from each sentence of the demand to its place here.
 use Rattle.std.specs.Prelude.{Ok, Some}
 use Rattle.std.specs.Prelude.{◌≡◌, Bool, true, false, List, ◌⊎◌, ◌↔◌, ◌≢◌, ℕ, ◌+◌, ◌-◌, ◌*◌, ◌/◌, ◌%◌, ◌≤◌, ◌<◌, length, get_or, take, Float}
@@ -37,7 +37,7 @@ use Rattle.expand.specs.ExpandCall.{peaks_in as to_expand}
 use Rattle.c_expand.specs.Expansion.{OneTold, ManyTold}
 use Rattle.expand_laws.specs.ExpandAccount.{raw_over, smooth_over, times_over}
 
--- ==== grids
+-- ==== grids (proofs/Grids.antt)
 
 -- Qualifying apexes of row r, by their indices in the row: candidates of a row whose raw maximum reaches the floor, with a prominence of at least
 -- the floor and a half-height width, rounded, of at least the least width (row_search/specs/Qualifying.antt).
@@ -98,7 +98,7 @@ GridCallsAccounted =
     (whole : Bool) (flag : ℕ) (g : Grid) (rows : ℕ) (out₀ out : List ℕ) (r : ℕ) → GridCalled whole flag g rows out₀ out r → r % 64 ≡ 0
     → (take (r / 64 * size_in_bytes) out ≡ bytes_of (words_to g rows)) × GridAccounted g rows (r / 64) (words_of out)
 
--- ==== stitching
+-- ==== stitching (proofs/Demand3.antt)
 
 -- Owner: the stitched peak that the owner column names for an input peak. Both are told by their places in their lists.
 abbrev pub owner : StitchLists → ℕ → ℕ
@@ -141,7 +141,7 @@ StitchCallsAccounted =
     (told : Bool) (list : List ℕ) (params : StitchParams) (was is : StitchLists) (r : ℕ)
     → StitchCalled told list params was is r → r % 64 ≡ 0 → StitchAccounted list is (r / 64)
 
--- ==== expansion: a mobility peak p over a run, with parameters e and weights ws
+-- ==== expansion (proofs/Expansion.antt): a mobility peak p over a run, with parameters e and weights ws
 
 -- Padded frame window: the one that the Rust forms for the mobility peak and that expansion's first call gives, frames lo to hi, ends included,
 -- by their places in the run (expand_padded_window/specs/FrameWindow.antt).

@@ -56,7 +56,7 @@ pub record ListedByTime (floor sep min_width : Float) (y z t : List Float) : Typ
   -- of two that are reached at one time the first is the one that comes first in the choice
   pub of-equal : Each (λ i j. lt (apex_time y t i) (apex_time y t j) ≡ false → higher_first y i j ≡ true) (listed_apexes floor sep min_width y z t)
 
--- whatever the floor, the least separation and the least width: `by-time`
+-- whatever the floor, the least separation and the least width: `by-time` in proofs/TimesInOrder.antt
 abbrev pub ByTime : Type 0
 ByTime = (floor sep min_width : Float) (y z t : List Float) → Readings y → Times t → ListedByTime floor sep min_width y z t
 

@@ -32,6 +32,7 @@ OtherNumber =
     (rule : KeyRule) (params : StitchParams) (ps : List ImPeak1D) (order column : List ℕ) (p : ℕ) → (Memᴰ p order → ⊥)
     → get_or (marked 0 (groups rule params ps order) column) p 0 ≡ get_or column p 0
 
--- Merged groups of peaks whose floats are of binary32 have such floats too, so that they are read as they were written: `groups-fit`
+-- Merged groups of peaks whose floats are of binary32 have such floats too, so that they are read as they were written:
+-- `groups-fit` in proofs/Fits.antt
 abbrev pub GroupsFit : Type 0
 GroupsFit = (ps : List ImPeak1D) (gs : List (List ℕ)) → AllFit ps → AllFit (group_peaks ps gs)

@@ -39,7 +39,7 @@ ByteThere =
 
 -- ---- the last line of some bytes
 
--- It is what stands behind the last LF: `last-behind`.
+-- It is what stands behind the last LF: `last-behind` in proofs/Facts.antt.
 abbrev pub LastBehind : Type 0
 LastBehind = (before line : List ℕ) → no_lf line ≡ true → last_text (before ++ (lf ∷ line)) ≡ line
 

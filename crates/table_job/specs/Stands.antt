@@ -83,7 +83,7 @@ pub record Ends (input gone out : List ℕ) (j : Job) : Type 0 where
 abbrev pub StandsFirst : Type 0
 StandsFirst = (buf out : List ℕ) → Stands [] [] buf out first
 
--- after a read, which put k bytes behind those that are held: `Stands-read`
+-- after a read, which put k bytes behind those that are held: `stands_read`
 abbrev pub StandsRead : Type 0
 StandsRead =
     (input gone buf₀ buf out : List ℕ) (j : Job) (k : ℕ) → j.from ≡ 0 → take j.have buf ≡ take j.have buf₀ → Stands input gone buf₀ out j
