@@ -1,4 +1,4 @@
-// The C entries of expansion, the second call, which the archive libexpandapi.a exports under the names of include/rubzolena.h. Each
+// The C entries of expansion, the second call, which the archive libc_expand.a exports under the names of include/rubzolena.h. Each
 // calls the function of c_expand of the same name and states its clauses again.
 #![tactic(auto)]
 

@@ -1,4 +1,4 @@
-// The C entries of grid detection and stitching, which the archive libcapi.a exports under the names of include/rubzolena.h. Each
+// The C entries of grid detection and stitching, which the archive libc_grid_stitch.a exports under the names of include/rubzolena.h. Each
 // calls the function of c_grid_stitch of the same name and states its clauses again.
 #![tactic(auto)]
 
