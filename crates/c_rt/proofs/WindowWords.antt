@@ -1,5 +1,5 @@
 -- The word of the first call, and what it leaves in the lent list.
-use mathlib.Core.Path.{◌≡◌, refl, sym, ap, subst}
+use mathlib.Core.Path.{◌≡◌, refl, sym, ap, subst, ◌∙◌}
 use mathlib.Core.Bool.{Bool, true, false, cond}
 use mathlib.Core.List.{List, [], ◌∷◌, ◌++◌}
 use Prim.Native.Nat.{ℕ, ◌<◌, ◌≤◌, ◌^◌, max}
@@ -142,6 +142,11 @@ module _ (peak ids : List ℕ) (times : List Float) (e : RtExpandParams) where
           omega (arith, i.0, i.1, r.few)
       go None g = omega arith
 
-  pub places-few : (x : RtWindow) → window_number peak ids times e ≡ 0 → Some x ≡ window_of ids times e (peak_at peak 0) → (x.frames.lo < 4294967296) × (x.frames.hi < 4294967296)
+  pub places-few : (x : RtWindow) (o : Option RtWindow) → says (Ok o) ≡ answer_by (window_number peak ids times e) (window_of ids times e (peak_at peak 0)) → Some x ≡ o
+      → (x.frames.lo < 4294967296) × (x.frames.hi < 4294967296)
   unfolding last_of
-  places-few x z h = let f : max x.frames.lo x.frames.hi < 4294967296 = subst (λ (w : Option RtWindow). last_of w < 4294967296) (sym h) (last-few z) in (omega (arith, f), omega (arith, f))
+  places-few x o h i =
+      let n = window_number peak ids times e in
+      let w = window_of ids times e (peak_at peak 0) in
+      let f : max x.frames.lo x.frames.hi < 4294967296 =
+      subst (λ (w : Option RtWindow). last_of w < 4294967296) (sym (i ∙ window-is n w o h)) (last-few (sym (none-refuses n w o h))) in (omega (arith, f), omega (arith, f))

@@ -39,13 +39,13 @@ use Rattle.expand_padded_window.proofs.Laws.{window-in}
 use Rattle.rt_laws.specs.RtAccount.{RtAccounted}
 use Rattle.rt_laws.proofs.RtAccount.{rt-account, qualifying-are}
 use Rattle.sort_digits.proofs.SortedLaws.{at-index}
+use Rattle.expand_many.proofs.Few.{fallback-few}
 use Rattle.rt_params.specs.declared.RtExpandParams.{RtExpandParams}
 use Rattle.rt_apex.specs.InTime.{apex_time, local_peak_of}
-use Rattle.rt_fallback.specs.Fallback.{fallback_of}
 use Rattle.expand_trace.specs.declared.inner.Way.{Way}
 use Rattle.expand_trace.specs.declared.inner.Way.TheVariants.{AllZero, TooShort, Smoothed}
 use Rattle.expand_trace.specs.Trace.{trace_over, any_above, way_of}
-use Rattle.expand_trace.specs.FallbackPeaks.{apexes_in, fallback_peaks, peak_words}
+use Rattle.expand_trace.specs.FallbackPeaks.{fallback_peaks, peak_words}
 use Rattle.expand_trace.proofs.Peaks.{placed-length, words-length}
 use Rattle.expand_one.specs.Steps.{max_summed, Followed}
 use Rattle.expand_one.proofs.Laws.{trace-length, trace-at-most}
@@ -234,17 +234,6 @@ module _ (run : Run) (e : RtExpandParams) (ws : List Float) (p : ImPeak1D) (firs
           }
 
   -- ---- another path
-  fallback-one : length (fallback_peaks x lo run.ids run.times p e.fallback_frac_width first) ≤ 1
-  unfolding fallback_peaks apexes_in
-  fallback-one =
-      let f = fallback_of x run.ids run.times p e.fallback_frac_width first in
-      let l = go f in
-      omega (arith, placed-length lo (length x) run.ids p (apexes_in f) first, l)
-    where
-      go : (f : Option RtPeak1D) → length (apexes_in f) ≤ 1
-      go None = omega arith
-      go (Some q) = omega arith
-
   not-ordinary : Some (record { lo = lo; hi = hi }) ≡ window_in run e p → (Ordinary run e ws p lo hi → ⊥) → length (peaks_over run e ws p lo hi first) ≤ 1
   unfolding peaks_over by_way or_else
   not-ordinary w other = go (way_of x e.fallback_if_frames_lt) refl found refl
@@ -252,8 +241,8 @@ module _ (run : Run) (e : RtExpandParams) (ws : List Float) (p : ImPeak1D) (firs
       go : (way : Way) → way ≡ way_of x e.fallback_if_frames_lt → (l : List RtPeak1D) → l ≡ found
           → length (by_way way (fallback_peaks x lo run.ids run.times p e.fallback_frac_width first) l) ≤ 1
       go AllZero s l is = omega arith
-      go TooShort s l is = fallback-one
-      go Smoothed s [] is = fallback-one
+      go TooShort s l is = fallback-few x lo run.ids run.times p e.fallback_frac_width first
+      go Smoothed s [] is = fallback-few x lo run.ids run.times p e.fallback_frac_width first
       go Smoothed s (q ∷ l) is =
           absurd (other (record { window = w; long = omega (arith, way-long x e.fallback_if_frames_lt s, trace-length run e p lo hi); some = omega (arith, ap length is, found-count) }))
 

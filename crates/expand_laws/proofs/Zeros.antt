@@ -1,23 +1,23 @@
--- A trace without a reading above 0 has no candidate. Its readings are sums of readings that are not negative, so that each is 0 or no
--- number; a weighted mean of such readings is one again, whatever the weights; and of two such neither is below the other.
-use mathlib.Core.Path.{◌≡◌, refl, sym, ap, ◌∙◌, subst}
+-- A trace without a reading above 0 has no candidate: its readings are sums of readings that are not negative, so that each is 0 or no
+-- number (row_smoothed/proofs/Zeros).
+use mathlib.Core.Path.{◌≡◌, refl, sym, subst}
 use mathlib.Core.Bool.{Bool, true, false, cond}
 use mathlib.Core.List.{List, [], ◌∷◌}
 use Prim.Native.Nat.{ℕ, zero, suc, ◌≤◌, ◌<◌, ◌+◌, ◌-◌, ◌*◌, ◌^◌}
 use native.Mathlib.Omega.{arith}
-use borrow.Author.Tests.{ltb-true, ltb-false, eqb-false}
+use borrow.Author.Tests.{ltb-true, ltb-false}
 use lib.Dec.{T, ltb, eqb}
 use lib.ListN.{length, get_or, get_or-eq_default}
-use lib.Ieee.{Float, nan, inf, fin, Format, binary32, prec, emax, low, up, down, unlike, below, lt, add, mul, div, sum, round, units, odd, of_bits}
-use lib.Ieee.Fits.{up_pos, down_pos}
-use lib.Ieee.Scale.{finite, round_same}
-use Rattle.std.proofs.Common.{zero-mul, mul-pos, mul_comm}
+use lib.Ieee.{Float, nan, inf, fin, Format, binary32, prec, emax, low, up, down, lt, add, sum, round, units, odd, of_bits}
+use lib.Ieee.Fits.{up_pos}
+use lib.Ieee.Scale.{finite}
+use Rattle.std.proofs.Common.{zero-mul, mul-pos}
 use Rattle.refusal.proofs.Bools.{clash, neither}
-use Rattle.numeric.specs.Arith.{◌⊕◌, ◌⊗◌, ◌⊘◌, 𝟎, at}
+use Rattle.numeric.specs.Arith.{◌⊕◌, 𝟎, at}
 use Rattle.numeric.specs.Numeric.{in_range, all_in_range}
 use Rattle.numeric.proofs.Patterns.{no_minus, below_inf, wider, range_at}
-use Rattle.row_smoothing.specs.Smoothing.{radius, meets, weighted, met, normalised, smoothed_at, smoothed}
-use Rattle.row_smoothing.proofs.Laws.{at-tab, smoothed-length}
+use Rattle.row_smoothing.specs.Smoothing.{smoothed}
+use Rattle.row_smoothed.proofs.Zeros.{idle, smoothed-idle, idle-candidate}
 use Rattle.row_apex.specs.Apex.{is_candidate}
 use Rattle.frames_index.specs.FrameIndex.{Index}
 use Rattle.frames_sums.specs.declared.inner.Window.{Window}
@@ -25,85 +25,6 @@ use Rattle.frames_sums.specs.Sums.{in_bins, in_scans, add_points, add_bins, add_
 use Rattle.frames_sums.proofs.Laws.{sums-length}
 use Rattle.frames_sums.proofs.InRange.{sum-at}
 use Rattle.expand_trace.specs.Trace.{any_above}
-
--- ---- readings that are 0 or no number
-abbrev Void : Float → Type 0
-Void nan = Unit {0}
-Void (inf s) = ⊥
-Void (fin s m e) = m ≡ 0
-
-abbrev AllVoid : List Float → Type 0
-AllVoid y = (i : ℕ) → Void (at y i)
-
-void-round : (s : Bool) (a c : ℕ) → 0 < c → a ≡ 0 → Void (round binary32 s a c)
-unfolding round units odd
-void-round s a c h z =
-    subst Void (sym (ap (λ (n : ℕ). round binary32 s n c) z ∙ round_same binary32 s 0 c 0 1 h (omega arith) (zero-mul 1 ∙ sym (zero-mul c)))) (one s)
-  where
-    one : (s : Bool) → Void (round binary32 s 0 1)
-    one true = refl
-    one false = refl
-
-no-product : (a k d : ℕ) → k ≡ 0 → a * (k * d) ≡ 0
-no-product a k d z = ap (λ (n : ℕ). a * (n * d)) z ∙ ap (λ (n : ℕ). a * n) (zero-mul d) ∙ mul_comm a 0 ∙ zero-mul a
-
-no-multiple : (k a b : ℕ) → k ≡ 0 → k * a * b ≡ 0
-no-multiple k a b z = ap (λ (n : ℕ). n * a * b) z ∙ ap (λ (n : ℕ). n * b) (zero-mul a) ∙ zero-mul b
-
-void-mul : (u v : Float) → Void v → Void (u ⊗ v)
-unfolding mul
-void-mul nan v h = tt
-void-mul (inf s) nan h = tt
-void-mul (inf s) (inf t) h = absurd h
-void-mul (inf s) (fin t n d) h = rw h tt
-void-mul (fin s m e) nan h = tt
-void-mul (fin s m e) (inf t) h = absurd h
-void-mul (fin s m e) (fin t n d) h = void-round (unlike s t) (m * up e * (n * up d)) (down e * down d) (mul-pos (down_pos e) (down_pos d)) (no-product (m * up e) n (up d) h)
-
-void-sum : (s : Bool) (a : ℕ) (t : Bool) (b c : ℕ) → 0 < c → a ≡ 0 → b ≡ 0 → Void (sum binary32 s a t b c)
-unfolding sum
-void-sum true a true b c h p q = void-round true (a + b) c h (omega (arith, p, q))
-void-sum false a false b c h p q = void-round false (a + b) c h (omega (arith, p, q))
-void-sum true a false b c h p q = rw (p, q) (void-round false (0 - 0) c h refl)
-void-sum false a true b c h p q = rw (p, q) (void-round false (0 - 0) c h refl)
-
-void-add : (x y : Float) → Void x → Void y → Void (x ⊕ y)
-unfolding add
-void-add nan y h k = tt
-void-add (inf s) y h k = absurd h
-void-add (fin s m e) nan h k = tt
-void-add (fin s m e) (inf t) h k = absurd k
-void-add (fin s m e) (fin t n d) h k =
-    void-sum s (m * up e * down d) t (n * up d * down e) (down e * down d) (mul-pos (down_pos e) (down_pos d)) (no-multiple m (up e) (down d) h) (no-multiple n (up d) (down e) k)
-
-void-div : (x y : Float) → Void x → Void (x ⊘ y)
-unfolding div
-void-div nan y h = tt
-void-div (inf s) y h = absurd h
-void-div (fin s m e) nan h = tt
-void-div (fin s m e) (inf t) h = refl
-void-div (fin s m e) (fin t n d) h = go (eqb n 0) refl
-  where
-    go : (b : Bool) → eqb n 0 ≡ b
-        → Void (cond b (cond (eqb m 0) nan (inf (unlike s t))) (round binary32 (unlike s t) (m * up e * down d) (n * up d * down e)))
-    go true q = rw h tt
-    go false q =
-        let p = eqb-false n 0 q in
-        void-round (unlike s t) (m * up e * down d) (n * up d * down e) (mul-pos (mul-pos (omega (arith, p)) (up_pos d)) (down_pos e)) (no-multiple m (up e) (down d) h)
-
-not_under : (s : Bool) (a : ℕ) (t : Bool) (b : ℕ) → a ≡ 0 → b ≡ 0 → below s a t b ≡ false
-not_under true a true b p q = rw (p, q) refl
-not_under true a false b p q = rw (p, q) refl
-not_under false a true b p q = refl
-not_under false a false b p q = rw (p, q) refl
-
-not-below : (x y : Float) → Void x → Void y → lt x y ≡ false
-unfolding lt
-not-below nan y h k = refl
-not-below (inf s) y h k = absurd h
-not-below (fin s m e) nan h k = refl
-not-below (fin s m e) (inf t) h k = absurd k
-not-below (fin s m e) (fin t n d) h k = not_under s (m * up e * down d) t (n * up d * down e) (no-multiple m (up e) (down d) h) (no-multiple n (up d) (down e) k)
 
 -- ---- readings that are not negative, or no number
 abbrev Up : Float → Type 0
@@ -148,16 +69,16 @@ up-in limit x l h = go x (wider limit x (omega (arith, l)) h) (below_inf limit x
     go (fin true m e) h f = absurd (no_minus m e h)
     go (fin false m e) h f = refl
 
--- one that is not above 0 is 0
-up-void : (x : Float) → Up x → lt 𝟎 x ≡ false → Void x
-unfolding lt of_bits
-up-void nan h z = tt
-up-void (inf true) h z = clash true refl h
-up-void (inf false) h z = clash true refl z
-up-void (fin true m e) h z = clash true refl h
-up-void (fin false m e) h z = go m (subst (λ (n : ℕ). m * up e * 1 ≤ n) (zero-mul (down e)) (ltb-false (0 * down e) (m * up e * 1) z))
+-- one that is not above 0 is a zero or no number
+up-idle : (x : Float) → Up x → lt 𝟎 x ≡ false → idle x ≡ true
+unfolding idle lt of_bits
+up-idle nan h z = refl
+up-idle (inf true) h z = clash true refl h
+up-idle (inf false) h z = clash true refl z
+up-idle (fin true m e) h z = clash true refl h
+up-idle (fin false m e) h z = go m (subst (λ (n : ℕ). m * up e * 1 ≤ n) (zero-mul (down e)) (ltb-false (0 * down e) (m * up e * 1) z))
   where
-    go : (m : ℕ) → m * up e * 1 ≤ 0 → m ≡ 0
+    go : (m : ℕ) → m * up e * 1 ≤ 0 → eqb m 0 ≡ true
     go zero l = refl
     go (suc m) l = let p : 0 < suc m * up e = mul-pos (omega arith) (up_pos e) in absurd (omega (arith, l, p))
 
@@ -208,41 +129,10 @@ not-above [] h i = refl
 not-above (v ∷ vs) h zero = (neither (lt 𝟎 v) h).0
 not-above (v ∷ vs) h (suc i) = not-above vs (neither (lt 𝟎 v) h).1 i
 
--- ---- smoothed
-module _ (u y : List Float) (h : AllVoid y) (i : ℕ) where
-  void-weighted : (k : ℕ) → Void (weighted u y i k)
-  unfolding weighted of_bits
-  void-weighted zero = refl
-  void-weighted (suc k) = go (meets (length y) (radius u) i k) (void-weighted k)
-    where
-      go : (b : Bool) → Void (weighted u y i k) → Void (cond b (weighted u y i k ⊕ at u k ⊗ at y (i + k - radius u)) (weighted u y i k))
-      go true s = void-add (weighted u y i k) (at u k ⊗ at y (i + k - radius u)) s (void-mul (at u k) (at y (i + k - radius u)) (h (i + k - radius u)))
-      go false s = s
-
-  void-mean : Void (smoothed_at u y i)
-  unfolding smoothed_at of_bits
-  void-mean = go (lt 𝟎 (met u (length y) i (length u)))
-    where
-      go : (b : Bool) → Void (cond b (weighted u y i (length u) ⊘ met u (length y) i (length u)) 𝟎)
-      go true = void-div (weighted u y i (length u)) (met u (length y) i (length u)) (void-weighted (length u))
-      go false = refl
-
-void-smoothed : (ws y : List Float) → AllVoid y → AllVoid (smoothed ws y)
-unfolding smoothed
-void-smoothed ws y h i = go (ltb i (length y)) refl
-  where
-    go : (b : Bool) → ltb i (length y) ≡ b → Void (at (smoothed ws y) i)
-    go true e = subst Void (sym (at-tab (length y) (smoothed_at (normalised ws) y) i (ltb-true i (length y) e))) (void-mean (normalised ws) y h i)
-    go false e = subst Void (sym (get_or-eq_default (smoothed ws y) nan (omega (arith, smoothed-length ws y, ltb-false i (length y) e)))) tt
-
-no_candidate : (y : List Float) (i : ℕ) → AllVoid y → is_candidate y i ≡ false
-unfolding is_candidate
-no_candidate y i h = rw (not-below (at y (i - 1)) (at y i) (h (i - 1)) (h i)) refl
-
 -- a trace over a run whose readings are in range has no candidate, smoothed by any weights, where none of its readings is above 0
 pub none-above : (limit : ℕ) (ix : Index) (w : Window) (f n : ℕ) (ws : List Float) (i : ℕ) → limit < 0x7f80_0000 → all_in_range limit ix.readings ≡ true
     → any_above (frame_sums ix w f n) ≡ false → is_candidate (smoothed ws (frame_sums ix w f n)) i ≡ false
 none-above limit ix w f n ws i l h none =
     let x = frame_sums ix w f n in
-    no_candidate (smoothed ws x) i
-    (void-smoothed ws x (λ k. up-void (at x k) (up-sums ix w (up-readings limit ix.readings l h) f n k) (not-above x none k)))
+    idle-candidate (smoothed ws x) i
+    (λ j. smoothed-idle ws x j (λ k. up-idle (at x k) (up-sums ix w (up-readings limit ix.readings l h) f n k) (not-above x none k)))

@@ -75,7 +75,7 @@ listed-few floor sep min_width y z t =
 
 -- ---- a mobility peak
 
-fallback-few : (x : List Float) (lo : ℕ) (ids : List ℕ) (times : List Float) (p : ImPeak1D) (frac : Float) (id : ℕ) → length (fallback_peaks x lo ids times p frac id) ≤ 1
+pub fallback-few : (x : List Float) (lo : ℕ) (ids : List ℕ) (times : List Float) (p : ImPeak1D) (frac : Float) (id : ℕ) → length (fallback_peaks x lo ids times p frac id) ≤ 1
 unfolding fallback_peaks apexes_in
 fallback-few x lo ids times p frac id =
     let f = fallback_of x ids times p frac id in

@@ -8,6 +8,7 @@ use native.Mathlib.Omega.{arith}
 use borrow.Author.Tests.{eqb-true, eqb-false, ltb-true, ltb-false}
 use lib.Dec.{eqb, ltb}
 use lib.ListN.{length, get_or, take, drop, set, length-set, length-drop, length-append, take-append-drop}
+use lib.Arith.{digits_lt}
 use lib.Seq.{get_or-set_same, get_or-set_other, get_or-drop, get_or-take, drop-set-lt, drop-drop, take-add, take_at, drop_at, length-take-le}
 use lib.Ieee.{Float, nan}
 use Rattle.numeric.specs.Arith.{𝟎, at}
@@ -69,11 +70,7 @@ module _ (w : ℕ → Window) (old : List ℕ) where
 
 -- ---- n lists of m places each
 
--- each place is one of them
-pub place_in : (k n m f : ℕ) → k < n → f < m → k * m + f < n * m
-place_in k n m f h l = omega (arith, row_fits k n m (n * m) h (omega arith))
-
--- and no two are one
+-- no two places are one
 lists-apart : (j k m f g : ℕ) → j < k → f < m → j * m + f ≡ k * m + g → ⊥
 lists-apart j k m f g h l e = omega (arith, row_fits j k m (k * m) h (omega arith))
 
@@ -100,7 +97,7 @@ module _ (value : ℕ → Float) (n m f : ℕ) (old : List Float) where
   pub putting-more : (k : ℕ) (mid : List Float) (v : Float) → Putting value k n m f old mid → k < n → f < m → n * m ≤ length old → v ≡ value k
       → Putting value (k + 1) n m f old (set mid (k * m + f) v)
   putting-more k mid v p h l room e =
-      let within : k * m + f < n * m = place_in k n m f h l in
+      let within : k * m + f < n * m = digits_lt h l in
       let size : length mid ≡ length old = p.size in
       record {
         size = length-set mid (k * m + f) v ∙ size;
@@ -112,7 +109,7 @@ module _ (value : ℕ → Float) (n m f : ℕ) (old : List Float) where
       go : (j : ℕ) → j < k + 1 → (t : Bool) → eqb j k ≡ t → at (set mid (k * m + f) v) (j * m + f) ≡ value j
       go j b true t =
           let x : j ≡ k = eqb-true j k t in
-          let within : k * m + f < n * m = place_in k n m f h l in
+          let within : k * m + f < n * m = digits_lt h l in
           let size : length mid ≡ length old = p.size in
           rw x (get_or-set_same mid (k * m + f) v nan (omega arith) ∙ e)
       go j b false t =

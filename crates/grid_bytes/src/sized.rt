@@ -9,6 +9,7 @@ ghost use Rattle.grid_bytes.specs.ByteGrid.{Fit};
 
 use grid_byte_rows::call::ByteCall;
 use grid_rows::call::Terms;
+use grid_rows::lent::RowScratch;
 use row_record::{ImPeak1D, PeakId};
 use row_search::scratch::Arrays;
 use std::ops::Range;
@@ -33,7 +34,12 @@ fn detect_in<const N: usize, const B: usize>(
     let mut y = [0f32; N];
     let mut lists = Arrays::<N, B>::new();
     let mut scratch = lists.lend(N);
-    super::weighed::detect_lent(call, weights, rows, out, &mut z, &mut y, &mut scratch)
+    let mut lent = RowScratch {
+        z: &mut z[..call.terms.cols],
+        y: &mut y,
+        search: &mut scratch,
+    };
+    super::weighed::detect_smoothed(call, weights, rows, out, &mut lent)
 }
 
 // The records of the peaks of some rows. Many rows are worked through in two halves. This function calls itself, so a

@@ -1,5 +1,5 @@
 // Rows of a grid with its weights decoded.
-ghost use Rattle.std.specs.Prelude.{◌≤◌, ◌/◌, length};
+ghost use Rattle.std.specs.Prelude.{◌/◌, length};
 ghost use Rattle.grid_word_bytes.specs.Bytes.{floats_of};
 ghost use Rattle.grid_rows.specs.Steps.{Ready, Done};
 ghost use Rattle.grid_rows.specs.Lent.{Lent};
@@ -8,12 +8,11 @@ ghost use Rattle.grid_byte_rows.specs.Call.{bytes_in};
 
 use grid_byte_rows::call::ByteCall;
 use grid_rows::lent::RowScratch;
-use row_search::scratch::Scratch;
 use row_smoothed::kernel::Kernel;
 use std::ops::Range;
 
 // The records of the peaks of some rows, smoothed by weights where there are any.
-fn detect_smoothed(
+pub fn detect_smoothed(
     call: &ByteCall<'_>,
     weights: &[u8],
     rows: Range<usize>,
@@ -33,27 +32,4 @@ fn detect_smoothed(
         divided: &u[..m],
     };
     grid_rows::rows::detect_rows(call, &kernel, rows, out, lent)
-}
-
-// The same with scratch apart; of `z` a row is used. Each list is a parameter of its own: a `RowScratch` asks that its `z` is as long as a
-// row, and this function takes a longer one.
-pub fn detect_lent(
-    call: &ByteCall<'_>,
-    weights: &[u8],
-    rows: Range<usize>,
-    out: &mut [u8],
-    z: &mut [f32],
-    y: &mut [f32],
-    scratch: &mut Scratch<'_>,
-) -> usize
-    requires { Ready (bytes_in call.now (floats_of weights.now)) rows.start rows.end (length out.old / 4)
-        × (call.now.terms.cols ≤ length z.old) × (call.now.terms.cols ≤ length y.old) × (call.now.terms.cols ≤ scratch.old.samples) }
-    ensures { Done as_bytes (bytes_in call.now (floats_of weights.now)) rows.start rows.end out.old out.new result }
-{
-    let mut lent = RowScratch {
-        z: &mut z[..call.terms.cols],
-        y,
-        search: scratch,
-    };
-    detect_smoothed(call, weights, rows, out, &mut lent)
 }

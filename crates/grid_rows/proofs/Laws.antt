@@ -10,7 +10,7 @@ use borrow.Author.Tests.{eqb-true, leb-true}
 use borrow.Rule.Slice.PartMut.{put_mid}
 use lib.Dec.{eqb}
 use lib.ListN.{length, take, drop, length-drop, length-take, length-append}
-use lib.Seq.{take_at, drop_at, length-take-le, drop-drop}
+use lib.Seq.{length-take-le}
 use lib.Ieee.{Float}
 use Rattle.refusal.proofs.Bools.{all4}
 use Rattle.numeric.proofs.Patterns.{all_take, all_drop}
@@ -33,6 +33,7 @@ use Rattle.tof_scale.specs.Tof.{row_place}
 use Rattle.grid_rows.specs.Grid.{Grid, row_of, listed_in, words_in, count_from, words_from}
 use Rattle.grid_rows.specs.Steps.{Handed, RowPut, RowReady, RowDone, Ready, Done, numbered}
 use Rattle.numeric.proofs.Laws.{product-step}
+use Rattle.numeric.proofs.Lists.{fill-behind}
 
 -- ---- one row
 
@@ -136,11 +137,7 @@ put-behind : {T : Type 0} (w : Written T) (W R : List ℕ) (d out last : List T)
 put-behind w W R d out last n m h a b =
     let K = stride w in
     let l : length (w.put W) ≡ n * K = put-length w W n h in
-    let t : take (n * K) out ≡ w.put W = ap (take (n * K)) a ∙ take_at (w.put W) (drop (n * K) d) (n * K) l in
-    let q : drop (n * K) out ≡ drop (n * K) d = ap (drop (n * K)) a ∙ drop_at (w.put W) (drop (n * K) d) (n * K) l in
-    let v : drop (n * K + m * K) out ≡ drop ((n + m) * K) d =
-    sym (drop-drop (m * K) (n * K) out) ∙ ap (drop (m * K)) q ∙ drop-drop (m * K) (n * K) d ∙ ap (λ (i : ℕ). drop i d) (sym (add-mul n m K)) in
-    put-part out (w.put R) last (n * K) (m * K) b ∙ rw (t, v, w.joined W R) (sym (append_assoc (w.put W) (w.put R) (drop ((n + m) * K) d)))
+    put-part out (w.put R) last (n * K) (m * K) b ∙ fill-behind (w.put W) (w.put R) d out (n * K) (m * K) l a ∙ rw (w.joined W R, add-mul n m K) refl
 
 small-ids : (first n k most : ℕ) → n ≤ k * most → first < 2 ^ 32 → first + (n + most) ≤ 2 ^ 32 → (n < 2 ^ 32) × (first + n < 2 ^ 32)
 small-ids first n k zero a b c = let z : k * 0 ≡ 0 = mul-zero k in (omega arith, omega arith)

@@ -8,12 +8,13 @@ use native.Mathlib.Omega.{arith}
 use borrow.Author.Tests.{le-leb, ltb-true, leb-true}
 use lib.Dec.{T, leb, ltb, lit<}
 use lib.ListN.{length, length-map, get_or, take, drop, set}
-use lib.Seq.{take_all, take-suc, take_at, drop_at, drop-cons, drop-drop, length-take-le, set_at, drop-length, get_or-take, get_or-drop}
+use lib.Seq.{take_all, take-suc, drop-cons, drop-drop, length-take-le, set_at, drop-length, get_or-take, get_or-drop}
 use lib.Ieee.{Float, binary32, of_bits, nan_bits}
 use Rattle.numeric.specs.Arith.{at}
 use Rattle.numeric.proofs.Patterns.{range_at, range-word}
 use Rattle.numeric.specs.Numeric.{in_range, all_in_range}
 use Rattle.numeric.proofs.Laws.{no_nan}
+use Rattle.numeric.proofs.Lists.{fill-behind}
 use Rattle.refusal.proofs.Bools.{both}
 use Rattle.row_params.specs.Params.{all_up_to, rising, rising_from}
 use Rattle.grid_word_bytes.specs.Bytes.{floats_of, bytes_of_word, bytes_of, with_word, word_at, words_to}
@@ -36,15 +37,6 @@ pub fill_done : {A : Type 0} (l d out : List A) (i : ℕ) → i ≡ length d →
 fill_done l d out i h e = e ∙ rw (h, drop-length, append-nil)
 
 -- ---- words that are written
--- n items P at the front of the buffer d, and r items R right behind them
-pub behind : {A : Type 0} (P R d out next : List A) (n r : ℕ) → length P ≡ n → out ≡ P ++ drop n d → next ≡ take n out ++ (R ++ drop (n + r) out)
-    → next ≡ (P ++ R) ++ drop (n + r) d
-behind P R d out next n r l e o =
-    let t : take n out ≡ P = ap (take n) e ∙ take_at P (drop n d) n l in
-    let q : drop (n + r) out ≡ drop (n + r) d =
-    sym (drop-drop r n out) ∙ ap (λ x. drop r (drop n x)) e ∙ ap (drop r) (drop_at P (drop n d) n l) ∙ drop-drop r n d in
-    o ∙ rw (t, q) (sym (append_assoc P R (drop (n + r) d)))
-
 -- one word more
 pub word-behind : (ws d out next : List ℕ) (i : ℕ) → i < length ws → out ≡ bytes_of (take i ws) ++ drop (i * 4) d → next ≡ with_word out i (get_or ws i 0)
     → next ≡ bytes_of (take (i + 1) ws) ++ drop ((i + 1) * 4) d
@@ -54,7 +46,7 @@ word-behind ws d out next i h e o =
     let s : take (i + 1) ws ≡ take i ws ++ (w ∷ []) = rw add-one (take-suc ws i 0 h) in
     let l : length (bytes_of (take i ws)) ≡ i * 4 = bytes-length (take i ws) ∙ ap (λ (k : ℕ). k * 4) (length-take-le i ws (omega arith)) in
     let m : (i + 1) * 4 ≡ i * 4 + 4 = omega arith in
-    rw (s, m, bytes-append, append-nil) (behind (bytes_of (take i ws)) (bytes_of_word w) d out next (i * 4) 4 l e o)
+    rw (s, m, bytes-append, append-nil) (o ∙ fill-behind (bytes_of (take i ws)) (bytes_of_word w) d out (i * 4) 4 l e)
 
 -- ---- readings as words
 -- a float of a list that is in range has no pattern of a NaN

@@ -229,11 +229,11 @@ under-finite (inf false) (inf t) n u v h = absurd v
 under-finite (inf false) (fin t m e) n u v h = absurd h
 under-finite (fin s m e) y n u v h = tt
 
-value-plus : (x : Float) (n : ℕ) → HasValue x false n one → T (plus x)
-value-plus nan n h = absurd h
-value-plus (inf s) n h = absurd h
-value-plus (fin true m e) n h = clash true refl h.0
-value-plus (fin false m e) n h = tt
+pub value-plus : (x : Float) (n d : ℕ) → HasValue x false n d → T (plus x)
+value-plus nan n d h = absurd h
+value-plus (inf s) n d h = absurd h
+value-plus (fin true m e) n d h = clash true refl h.0
+value-plus (fin false m e) n d h = tt
 
 pub round-num : (a c : ℕ) → T (plus (round binary32 false a c)) → Num (round binary32 false a c)
 round-num a c h = record { held = round-fits binary32 false a c; clear = h }
@@ -252,7 +252,7 @@ round-at-most a c B C r h =
     let y = round binary32 false B one in
     let l : T (le x y) = round_mono binary32 a c B one C one-pos h in
     let p : Num x = round-num a c (finite-plus x (round-unsigned a c) (under-finite x y B (round-unsigned a c) v l)) in
-    let q : Num y = round-num B one (value-plus y B v) in
+    let q : Num y = round-num B one (value-plus y B one v) in
     (p, le_trans (le_of x y p q l) (le_of_eq (mag_is y B v)))
 
 pub round-at-least : (a c B : ℕ) → 0 < c → Rep B → B * c ≤ a * one → Num (round binary32 false a c) → B ≤ mag (round binary32 false a c)
@@ -260,7 +260,7 @@ round-at-least a c B C r h p =
     let v = exact B r in
     let x = round binary32 false a c in
     let y = round binary32 false B one in
-    let q : Num y = round-num B one (value-plus y B v) in
+    let q : Num y = round-num B one (value-plus y B one v) in
     le_trans (le_of_eq (sym (mag_is y B v))) (le_of y x q p (round_mono binary32 B one a c one-pos C h))
 
 pub round-order : (a c b d : ℕ) → 0 < c → 0 < d → a * d ≤ b * c → Num (round binary32 false b d) → AtMost (round binary32 false a c) (mag (round binary32 false b d))
@@ -284,7 +284,7 @@ round-scale n t h k = go (ltb n (2 ^ 24)) refl
 
     by : (m : ℕ) → HasValue (round binary32 false (n * 2 ^ t) one) false m one → m ≡ mag (round binary32 false n one) * 2 ^ t
         → AtMost (round binary32 false (n * 2 ^ t) one) (mag (round binary32 false n one) * 2 ^ t)
-    by m v e = (round-num (n * 2 ^ t) one (value-plus (round binary32 false (n * 2 ^ t) one) m v), le_of_eq (mag_is (round binary32 false (n * 2 ^ t) one) m v ∙ e))
+    by m v e = (round-num (n * 2 ^ t) one (value-plus (round binary32 false (n * 2 ^ t) one) m one v), le_of_eq (mag_is (round binary32 false (n * 2 ^ t) one) m v ∙ e))
 
     go : (b : Bool) → ltb n (2 ^ 24) ≡ b → AtMost (round binary32 false (n * 2 ^ t) one) (mag (round binary32 false n one) * 2 ^ t)
     go true e =
@@ -301,6 +301,14 @@ round-scale n t h k = go (ltb n (2 ^ 24)) refl
         by (grid binary32 (n * 2 ^ t) one) (round_val binary32 (n * 2 ^ t) one (subst (λ (z : ℕ). z < 2 ^ 277) (sym w) k)) w
 
 -- ---- the operations as fractions of units
+-- a sum of two fractions
+pub joined : (a b c d u v l : ℕ) → u * c ≡ a * l → v * d ≡ b * l → (a * d + b * c) * l ≡ (u + v) * (c * d)
+joined a b c d u v l g h =
+    add-mul (a * d) (b * c) l
+    ∙ ap₂ ◌+◌ (mul_right_comm a d l ∙ ap (λ (z : ℕ). z * d) (sym g) ∙ mul_assoc u c d)
+    (mul_right_comm b c l ∙ ap (λ (z : ℕ). z * c) (sym h) ∙ mul_right_comm v d c ∙ mul_assoc v c d)
+    ∙ sym (add-mul u v (c * d))
+
 add-fin : (m n : ℕ) (e d : ℤ) → add binary32 (fin false m e) (fin false n d) ≡ round binary32 false (m * up e * down d + n * up d * down e) (down e * down d)
 unfolding add sum
 add-fin m n e d = refl
@@ -317,13 +325,6 @@ add_is (fin false m e) (fin false n d) p q =
     ∙ round_same binary32 false (m * up e * down d + n * up d * down e) (down e * down d) (mag (fin false m e) + mag (fin false n d)) one
     (mul-pos (down_pos e) (down_pos d)) one-pos
     (joined (m * up e) (n * up d) (down e) (down d) (mag (fin false m e)) (mag (fin false n d)) one (cross (fin false m e) p) (cross (fin false n d) q))
-  where
-    joined : (a b c d u v l : ℕ) → u * c ≡ a * l → v * d ≡ b * l → (a * d + b * c) * l ≡ (u + v) * (c * d)
-    joined a b c d u v l g h =
-        add-mul (a * d) (b * c) l
-        ∙ ap₂ ◌+◌ (mul_right_comm a d l ∙ ap (λ (z : ℕ). z * d) (sym g) ∙ mul_assoc u c d)
-        (mul_right_comm b c l ∙ ap (λ (z : ℕ). z * c) (sym h) ∙ mul_right_comm v d c ∙ mul_assoc v c d)
-        ∙ sym (add-mul u v (c * d))
 
 mul-fin : (m n : ℕ) (e d : ℤ) → mul binary32 (fin false m e) (fin false n d) ≡ round binary32 false (m * up e * (n * up d)) (down e * down d)
 unfolding mul

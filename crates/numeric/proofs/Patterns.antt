@@ -1,8 +1,9 @@
 -- Floats with a clear sign order like their bit patterns, infinity included.
 use Rattle.std.proofs.Common.{◌≡◌, ℕ, zero, suc, ◌+◌, ◌-◌, ◌*◌, ◌/◌, ◌%◌, ◌^◌, ◌<◌, ◌≤◌, Bool, true, false, cond, not, ◌&&◌, ◌||◌, T, eqb, ltb, leb, List, [], ◌∷◌, length, take, drop, ℤ, sym, refl, ap, ◌∙◌, subst, inl, inr, le_trans, le_of_eq, lt_of_le_of_lt, mul-le-mul_right, suc-mul, eq-or-lt_of_le, le-div_iff_mul-le, zero-add, mul_right_comm, arith, pow_pos, pow-add, ltb-false, ltb-true, le-ltb, lt-ltb, eqb-true, le-leb, leb-true}
 use native.Mathlib.Nat.{pow-succ'}
+use mathlib.Core.Bool.{beq}
 use borrow.Author.Tests.{lt-leb}
-use lib.Ieee.{Float, nan, inf, fin, Format, binary32, prec, emax, low, up, down, size, lt, le, eq, neg, is_nan, to_bits, of_bits, odd, units, round}
+use lib.Ieee.{Float, nan, inf, fin, Format, binary32, prec, emax, low, up, down, size, lt, le, eq, neg, is_nan, to_bits, of_bits, odd, units, round, sum}
 use lib.Ieee.Digits.{size-lt, size-le, size_reaches}
 use lib.Ieee.Fits.{kept-lt, down_pos}
 use lib.Ieee.Scale.{finite}
@@ -220,6 +221,15 @@ units_number f s q k = go (ltb (q * 2 ^ k) (2 ^ (low f + suc (emax f))))
 pub round_number : (f : Format) (s : Bool) (a b : ℕ) → is_nan (round f s a b) ≡ false
 unfolding round
 round_number f s a b = units_number f s _ _
+
+pub sum_number : (f : Format) (s : Bool) (a : ℕ) (t : Bool) (b c : ℕ) → is_nan (sum f s a t b c) ≡ false
+unfolding sum
+sum_number f s a t b c = go (beq s t) (ltb a b)
+  where
+    go : (x y : Bool) → is_nan (cond x (round f s (a + b) c) (cond y (round f t (b - a) c) (round f (s && ltb b a) (a - b) c))) ≡ false
+    go true y = round_number f s (a + b) c
+    go false true = round_number f t (b - a) c
+    go false false = round_number f (s && ltb b a) (a - b) c
 
 pub minus_plus : (m : ℕ) (e : ℤ) → to_bits binary32 (fin true m e) ≡ 0x8000_0000 + to_bits binary32 (fin false m e)
 unfolding to_bits

@@ -8,6 +8,7 @@ use native.Mathlib.Nat.{zero-mul, one-mul, add-mul, mul_assoc, mul-le-mul_right}
 use borrow.Author.Tests.{lt-ltb, not-false, eqb-true, ltb-false, leb-true}
 use lib.Dec.{eqb, ltb}
 use lib.ListN.{length, get_or, take, drop, get_or-eq_default}
+use Rattle.std.proofs.lemmas.List.{nil_from_length}
 use lib.Seq.{take_at, drop-drop, drop-append-add}
 use lib.Ieee.{Float}
 use Rattle.limits.specs.Limits.{max_samples, any_number, max_height, identities, exact_index}
@@ -133,12 +134,8 @@ module _ (y z : List Float) (axis found ks : List ℕ) (j : ℕ) (a : Measured) 
       }
 
 -- ---- the list
-length-zero : {A : Type 0} (l : List A) → length l ≡ 0 → l ≡ []
-length-zero [] e = refl
-length-zero (x ∷ xs) e = absurd (omega arith)
-
 pub put-none : {T : Type 0} (w : Written T) → w.put [] ≡ []
-put-none w = length-zero (w.put []) (w.long [] ∙ zero-mul w.unit)
+put-none w = nil_from_length (w.put []) (w.long [] ∙ zero-mul w.unit)
 
 pub put-length : {T : Type 0} (w : Written T) (ws : List ℕ) (n : ℕ) → length ws ≡ n * size → length (w.put ws) ≡ n * stride w
 put-length w ws n e = w.long ws ∙ rw e (mul_assoc n size w.unit)

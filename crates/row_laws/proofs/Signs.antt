@@ -1,8 +1,8 @@
 -- Results with their sign turned, and bounds on the size of results of either sign.
-use mathlib.Core.Path.{◌≡◌, refl, sym, ap, ap₂, ◌∙◌, subst}
+use mathlib.Core.Path.{◌≡◌, refl, sym, ap, ◌∙◌, subst}
 use mathlib.Core.Bool.{Bool, true, false, not, cond, ◌&&◌, beq}
-use Prim.Native.Nat.{ℕ, ◌+◌, ◌-◌, ◌*◌, ◌^◌, ◌≤◌, ◌<◌}
-use native.Mathlib.Nat.{le_trans, le_of_eq, mul_comm, mul_assoc, mul_right_comm, mul-le-mul_right, mul-pos, add-mul}
+use Prim.Native.Nat.{ℕ, ◌+◌, ◌-◌, ◌*◌, ◌≤◌, ◌<◌}
+use native.Mathlib.Nat.{le_trans, le_of_eq, mul_comm, mul-le-mul_right, mul-pos}
 use native.Mathlib.Omega.{arith}
 use borrow.Author.Tests.{ltb-true, lt-ltb, le-ltb}
 use lib.Dec.{ltb}
@@ -11,7 +11,7 @@ use lib.Ieee.{Float, nan, inf, fin, binary32, up, down, unlike, lt, neg, round, 
 use lib.Ieee.Fits.{down_pos}
 use Rattle.numeric.specs.Arith.{◌⊕◌, ◌⊖◌, ◌⊗◌, ◌⊘◌}
 use Rattle.numeric.specs.Numeric.{abs_f}
-use Rattle.numeric.proofs.Bounds.{one, mag, Num, Rep, AtMost, value, lt-mag, round-at-most}
+use Rattle.numeric.proofs.Bounds.{one, mag, Num, Rep, AtMost, value, joined, lt-mag, round-at-most}
 use Rattle.rounding.proofs.Laws.{neg-round}
 
 -- ---- a rounded fraction with its sign turned
@@ -107,13 +107,6 @@ add-size (fin s m e) (fin t n d) B p q r h =
     sum-size s t (m * up e * down d) (n * up d * down e) (down e * down d) B (mul-pos (down_pos e) (down_pos d)) r
     (le_trans (le_of_eq (joined (m * up e) (n * up d) (down e) (down d) (mag (fin false m e)) (mag (fin false n d)) one (sym (value (fin false m e) p).1) (sym (value (fin false n d) q).1)))
     (mul-le-mul_right (down e * down d) h))
-  where
-    joined : (a b c d u v l : ℕ) → u * c ≡ a * l → v * d ≡ b * l → (a * d + b * c) * l ≡ (u + v) * (c * d)
-    joined a b c d u v l g h =
-        add-mul (a * d) (b * c) l
-        ∙ ap₂ ◌+◌ (mul_right_comm a d l ∙ ap (λ (z : ℕ). z * d) (sym g) ∙ mul_assoc u c d)
-        (mul_right_comm b c l ∙ ap (λ (z : ℕ). z * c) (sym h) ∙ mul_right_comm v d c ∙ mul_assoc v c d)
-        ∙ sym (add-mul u v (c * d))
 
 pub sub-size : (x y : Float) (B : ℕ) → Num (abs_f x) → Num (abs_f y) → Rep B → mag (abs_f x) + mag (abs_f y) ≤ B → AtMost (abs_f (x ⊖ y)) B
 sub-size x y B p q r h =

@@ -4,15 +4,13 @@ use mathlib.Core.Bool.{true, false}
 use Prim.Native.Nat.{ℕ, ◌+◌, ◌-◌, ◌*◌, ◌/◌, ◌≤◌, ◌<◌, min}
 use native.Mathlib.Nat.{le_trans, le_of_eq, lt_of_le_of_lt, lt_of_lt_of_le, mul_comm, mul_assoc, mul_right_comm, mul-one, mul-le-mul_right, mul-lt-mul_of_pos_right, le_of_mul-le-mul_right, lt_of_mul-lt-mul_right, add-mul, div-le_of_le-mul, le-div_iff_mul-le, div-lt_iff_lt-mul, div-mul-le_self}
 use native.Mathlib.Omega.{arith}
-use lib.Dec.{T}
 use lib.IntN.{ℤ, pos}
 use lib.Ieee.{Float, nan, inf, fin, binary32, up, down, of_int, to_unsigned}
 use lib.Ieee.Fits.{down_pos, of_int-fits}
 use lib.Ieee.Exact.{HasValue}
 use Rattle.numeric.specs.Arith.{index_f}
 use Rattle.numeric.specs.Numeric.{cast_f}
-use Rattle.refusal.proofs.Bools.{clash}
-use Rattle.numeric.proofs.Bounds.{one, mag, plus, Num, one-pos, value, mag_is}
+use Rattle.numeric.proofs.Bounds.{one, mag, Num, one-pos, value, value-plus, mag_is}
 use Rattle.rounding.specs.Rounding.{floor_f, ceil_f, round_f}
 use Rattle.rounding.proofs.Guess.{index-value}
 
@@ -22,14 +20,8 @@ in-units nan n h = h
 in-units (inf s) n h = h
 in-units (fin s m e) n h = (h.0, ap (λ (z : ℕ). z * one) (sym (mul-one (m * up e)) ∙ h.1) ∙ mul_right_comm n (down e) one)
 
-is-plus : (x : Float) (n : ℕ) → HasValue x false n 1 → T (plus x)
-is-plus nan n h = h
-is-plus (inf s) n h = absurd h
-is-plus (fin true m e) n h = clash true refl h.0
-is-plus (fin false m e) n h = tt
-
 pub num-index : (n : ℕ) → n ≤ 16777216 → Num (index_f n)
-num-index n h = record { held = of_int-fits binary32 (pos n); clear = is-plus (index_f n) n (index-value n h) }
+num-index n h = record { held = of_int-fits binary32 (pos n); clear = value-plus (index_f n) n 1 (index-value n h) }
 
 pub mag-index : (n : ℕ) → n ≤ 16777216 → mag (index_f n) ≡ n * one
 mag-index n h = mag_is (index_f n) (n * one) (in-units (index_f n) n (index-value n h))

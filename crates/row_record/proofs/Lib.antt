@@ -1,4 +1,5 @@
 -- The proofs of what specs/ states, and what the proofs of functions cite.
+pub mod Records
 pub mod Laws
 pub mod Missing
 pub mod Words

@@ -1,19 +1,17 @@
 -- A peak that is put into a list is got back as it was, and nothing else of the list changes.
-use mathlib.Core.Path.{◌≡◌, refl, ◌∙◌, ap, subst}
-use mathlib.Core.Bool.{Bool, true, false}
-use mathlib.Core.List.{List, ◌++◌}
-use Prim.Native.Nat.{ℕ, ◌≤◌, ◌<◌, ◌+◌, ◌-◌, ◌*◌}
-use native.Mathlib.Nat.{zero-add}
+use mathlib.Core.Path.{◌≡◌, refl, ◌∙◌}
+use mathlib.Core.List.{List}
+use Prim.Native.Nat.{ℕ, ◌<◌, ◌+◌, ◌*◌}
 use native.Mathlib.Omega.{arith}
-use borrow.Author.Tests.{ltb-true, ltb-false}
-use lib.Dec.{ltb, lit<}
-use lib.ListN.{length, get_or, take, drop, length-append, length-take, length-drop, get_or-append}
-use lib.Seq.{length-take-le, get_or-append-add, get_or-take, get_or-drop}
+use lib.Dec.{lit<}
+use lib.ListN.{length, get_or, take, drop}
+use lib.Seq.{length-take-le}
 use lib.Ieee.{binary32}
 use lib.Ieee.Bits.{of_bits-to_bits, of_bits-fits}
 use Rattle.row_record.specs.declared.ImPeak1D.{ImPeak1D}
 use Rattle.row_record.specs.Record.{size, words_of, peak_from, with_peak}
 use Rattle.row_record.specs.RoundTrip.{ReadFits, GotBack, OthersStay, SameLength}
+use Rattle.row_record.proofs.Records.{behind, put-length, beside}
 
 -- a peak's words are as many as a record has
 pub words-length : (p : ImPeak1D) → length (words_of p) ≡ size
@@ -69,44 +67,17 @@ read_fits l a =
       subscan = of_bits-fits binary32 _;
     }
 
--- a list l with the peak p put at place k
-module _ (l : List ℕ) (k : ℕ) (p : ImPeak1D) (room : k * size + size ≤ length l) where
-  front : length (take (k * size) l) ≡ k * size
-  front = length-take-le (k * size) l (omega arith)
-
-  -- the words in front of the record and behind it stay
-  pub words-before : (i : ℕ) → i < k * size → get_or (with_peak l k p) i 0 ≡ get_or l i 0
-  unfolding with_peak
-  words-before i h =
-      get_or-append (take (k * size) l) (words_of p ++ drop (k * size + size) l) 0 i (omega (arith, front)) ∙ get_or-take (k * size) l i 0 h
-
-  -- word j of the record, and on
-  inside : (j : ℕ) → get_or (with_peak l k p) (k * size + j) 0 ≡ get_or (words_of p ++ drop (k * size + size) l) j 0
-  unfolding with_peak
-  inside j =
-      subst
-      (λ (n : ℕ). get_or (take (k * size) l ++ (words_of p ++ drop (k * size + size) l)) (n + j) 0 ≡ get_or (words_of p ++ drop (k * size + size) l) j 0)
-      front
-      (get_or-append-add (take (k * size) l) (words_of p ++ drop (k * size + size) l) j 0)
-
-  pub words-after : (i : ℕ) → k * size + size ≤ i → get_or (with_peak l k p) i 0 ≡ get_or l i 0
-  words-after i h =
-      let j = i - (k * size + size) in
-      let e : i ≡ k * size + (size + j) = omega arith in
-      let f : k * size + size + j ≡ i = omega arith in
-      ap (λ (n : ℕ). get_or (with_peak l k p) n 0) e ∙ inside (size + j) ∙ get_or-append-add (words_of p) (drop (k * size + size) l) j 0
-      ∙ get_or-drop (k * size + size) l j 0 ∙ ap (λ (n : ℕ). get_or l n 0) f
-
 -- the list keeps its length
 pub same_length : SameLength
 unfolding with_peak
-same_length l k p room = simp (length-append, length-take, length-drop) (omega arith)
+same_length l k p room = put-length l (words_of p) (k * size) size refl room
 
 -- the peak that was put is the peak that is got
 pub got-back : GotBack
-unfolding peak_from
+unfolding with_peak peak_from
 got-back l k p room f =
-    own-words (with_peak l k p) (words_of p) (k * size) 0 (λ j h. rw zero-add (inside l k p room j ∙ get_or-append (words_of p) (drop (k * size + size) l) 0 j h))
+    own-words (with_peak l k p) (words_of p) (k * size) 0
+    (behind (take (k * size) l) (words_of p) (drop (k * size + size) l) (k * size) (length-take-le (k * size) l (omega arith)))
     ∙ rw (
       of_bits-to_bits binary32 p.scan_sigma f.sigma,
       of_bits-to_bits binary32 p.mobility f.mobility,
@@ -121,9 +92,5 @@ got-back l k p room f =
 
 -- every other peak of the list stays
 pub others-stay : OthersStay
-others-stay l k p room j n =
-    own-words (with_peak l k p) l (j * size) (j * size) (λ i b. beside (ltb j k) refl i b)
-  where
-    beside : (b : Bool) → ltb j k ≡ b → (i : ℕ) → i < size → get_or (with_peak l k p) (j * size + i) 0 ≡ get_or l (j * size + i) 0
-    beside true e i h = words-before l k p room (j * size + i) (let lt : j < k = ltb-true j k e in omega arith)
-    beside false e i h = words-after l k p room (j * size + i) (let ge : k ≤ j = ltb-false j k e in omega arith)
+unfolding with_peak
+others-stay l k p room j n = own-words (with_peak l k p) l (j * size) (j * size) (beside l (words_of p) (k * size) size refl room k j refl n)

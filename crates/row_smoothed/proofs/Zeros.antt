@@ -1,4 +1,5 @@
--- A row of zeros, smoothed by any weights, has only zeros and NaNs, so that nothing of it is listed.
+-- A row of zeros and NaNs has only zeros and NaNs when it is smoothed, by any weights, and no candidate; so nothing of a row of zeros is
+-- listed.
 use mathlib.Core.Path.{◌≡◌, refl, sym, ap, ◌∙◌}
 use mathlib.Core.Bool.{Bool, true, false, cond, ◌&&◌, ◌||◌, beq}
 use mathlib.Core.List.{List, [], ◌∷◌, ◌++◌}
@@ -26,7 +27,7 @@ use Rattle.std.proofs.Math.Bool.{and_assoc, and-true}
 -- ---- zeros and NaNs
 
 -- a zero, of either sign, or a NaN
-unfoldable idle : Float → Bool
+unfoldable pub idle : Float → Bool
 idle nan = true
 idle (inf s) = false
 idle (fin s m e) = eqb m 0
@@ -120,24 +121,24 @@ eq-idle (fin s (suc m) e) h =
     let z : suc m * up e * 1 ≡ 0 * 1 * down e = eqb-true _ _ (both (eqb (suc m * up e * 1) (0 * 1 * down e)) h).0 in
     let p : 0 < suc m * up e = mul-pos {m = suc m} (omega arith) (up_pos e) in absurd (omega arith)
 
--- ---- a row of zeros
--- past the row there is a NaN
+-- ---- a row of them
+-- past a row there is a NaN
 row-idle : (z : List Float) (i : ℕ) → all_zero z ≡ true → idle (at z i) ≡ true
 unfolding all_zero idle
 row-idle [] i h = refl
 row-idle (x ∷ xs) zero h = eq-idle x (both (eq x 𝟎) h).0
 row-idle (x ∷ xs) (suc i) h = row-idle xs i (both (eq x 𝟎) h).1
 
-weighted-idle : (u z : List Float) (i k : ℕ) → all_zero z ≡ true → idle (weighted u z i k) ≡ true
+weighted-idle : (u z : List Float) (i k : ℕ) → ((j : ℕ) → idle (at z j) ≡ true) → idle (weighted u z i k) ≡ true
 unfolding weighted
 weighted-idle u z i zero h = zero-idle
 weighted-idle u z i (suc k) h = go (meets (length z) (radius u) i k) (weighted-idle u z i k h)
   where
     go : (b : Bool) → idle (weighted u z i k) ≡ true → idle (cond b (weighted u z i k ⊕ at u k ⊗ at z (i + k - radius u)) (weighted u z i k)) ≡ true
-    go true a = add-idle (weighted u z i k) (at u k ⊗ at z (i + k - radius u)) a (mul-idle (at u k) (at z (i + k - radius u)) (row-idle z (i + k - radius u) h))
+    go true a = add-idle (weighted u z i k) (at u k ⊗ at z (i + k - radius u)) a (mul-idle (at u k) (at z (i + k - radius u)) (h (i + k - radius u)))
     go false a = a
 
-sample-idle : (u z : List Float) (i : ℕ) → all_zero z ≡ true → idle (smoothed_at u z i) ≡ true
+sample-idle : (u z : List Float) (i : ℕ) → ((j : ℕ) → idle (at z j) ≡ true) → idle (smoothed_at u z i) ≡ true
 unfolding smoothed_at
 sample-idle u z i h = go (lt 𝟎 (met u (length z) i (length u)))
   where
@@ -145,7 +146,7 @@ sample-idle u z i h = go (lt 𝟎 (met u (length z) i (length u)))
     go true = div-idle (weighted u z i (length u)) _ (weighted-idle u z i (length u) h)
     go false = zero-idle
 
-smoothed-idle : (ws z : List Float) (i : ℕ) → all_zero z ≡ true → idle (at (smoothed ws z) i) ≡ true
+pub smoothed-idle : (ws z : List Float) (i : ℕ) → ((j : ℕ) → idle (at z j) ≡ true) → idle (at (smoothed ws z) i) ≡ true
 unfolding smoothed
 smoothed-idle ws z i h = go (ltb i (length z)) refl
   where
@@ -159,11 +160,15 @@ smoothed-idle ws z i h = go (ltb i (length z)) refl
         let q : at (smoothed ws z) i ≡ nan = get_or-eq_default (smoothed ws z) nan p in
         ap idle q ∙ nan-idle
 
--- a row of which every reading is a zero or a NaN has no candidate
+-- it has no candidate
+pub idle-candidate : (y : List Float) (i : ℕ) → ((j : ℕ) → idle (at y j) ≡ true) → is_candidate y i ≡ false
+unfolding is_candidate
+idle-candidate y i h = rw (lt-idle (at y (i - 1)) (at y i) (h (i - 1)) (h i)) refl
+
 no-candidate : (y : List Float) (k : ℕ) → ((i : ℕ) → idle (at y i) ≡ true) → candidates_to y k ≡ []
-unfolding candidates_to is_candidate
+unfolding candidates_to
 no-candidate y zero h = refl
-no-candidate y (suc k) h = none_more y k (rw (lt-idle (at y (suc k - 1)) (at y (suc k)) (h (suc k - 1)) (h (suc k)))) ∙ no-candidate y k h
+no-candidate y (suc k) h = none_more y k (idle-candidate y (suc k) h) ∙ no-candidate y k h
 
 none_kept : (p : ImDetectParams) (y z : List Float) → candidates y ≡ [] → kept p y z ≡ []
 unfolding kept qualifying keep_all that_qualify
@@ -180,7 +185,7 @@ zeros-skip p ws z h = go (eqb (length ws) 0 || leb (length z) 2)
   where
     go : (b : Bool) → kept p (cond b z (smoothed ws z)) z ≡ []
     go true = none_kept p z z (no-candidate z (length z - 2) (λ i. row-idle z i h))
-    go false = none_kept p (smoothed ws z) z (no-candidate (smoothed ws z) (length (smoothed ws z) - 2) (λ i. smoothed-idle ws z i h))
+    go false = none_kept p (smoothed ws z) z (no-candidate (smoothed ws z) (length (smoothed ws z) - 2) (λ i. smoothed-idle ws z i (λ j. row-idle z j h)))
 
 -- ---- the test for it
 pub zeros-push : (z : List Float) (x : Float) → all_zero (z ++ (x ∷ [])) ≡ (all_zero z && eq x 𝟎)

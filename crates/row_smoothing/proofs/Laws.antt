@@ -12,7 +12,6 @@ use lib.Dec.{ltb, eqb}
 use lib.ListN.{length, drop, take, set, length-append, length-map, take-append-drop, drop_of_length-le, get_or-append}
 use lib.Seq.{drop-cons, take-suc, take-length, set_at, get_or_at, take_at, drop_at, drop-drop, drop-length, length-take-le, ext_get_or}
 use lib.Ieee.{Float, nan, lt}
-use Rattle.std.proofs.Common.{length-drop}
 use Rattle.std.specs.Prelude.{replicate}
 use Rattle.refusal.proofs.Bools.{all4}
 use Rattle.limits.specs.Limits.{max_weights}
@@ -87,10 +86,6 @@ front l k x xs e = go (ltb k (length l)) refl
         let d : x ∷ xs ≡ at l k ∷ drop (suc k) l = sym e ∙ drop-cons l k nan p in
         (p, ap (λ z. at z 0) d, rw add-one (ap (drop 1) d))
     go false h = let n : 0 ≡ length (x ∷ xs) = ap length (sym (drop_of_length-le l (ltb-false k (length l) h)) ∙ e) in absurd (omega arith)
-
--- the part of a list from k on
-pub rest_all : (l : List Float) (k : ℕ) → take (length l - k) (drop k l) ≡ drop k l
-rest_all l k = let e : length (drop k l) ≡ length l - k = rw length-drop refl in rw (← e, take-length) refl
 
 -- ---- a buffer that is filled from a on
 module _ (f : ℕ → Float) (a : ℕ) (d : List Float) where

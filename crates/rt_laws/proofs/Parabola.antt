@@ -1,20 +1,20 @@
 -- Where the parabola through three readings has its apex is a number, whichever readings from plus zero on they are, but for infinity.
 use mathlib.Core.Path.{◌≡◌, refl, sym, ap, ◌∙◌, subst}
-use mathlib.Core.Bool.{Bool, true, false, cond, ◌&&◌, beq}
-use Prim.Native.Nat.{ℕ, zero, suc, ◌+◌, ◌-◌, ◌*◌, ◌≤◌, ◌<◌}
+use mathlib.Core.Bool.{Bool, true, false, cond}
+use Prim.Native.Nat.{ℕ, zero, suc, ◌*◌, ◌≤◌, ◌<◌}
 use native.Mathlib.Nat.{sub-le, zero-mul, mul-pos}
 use native.Mathlib.Omega.{arith}
 use borrow.Author.Tests.{ltb-true, ltb-false, lt-ltb}
 use lib.Dec.{T, ltb, eqb}
 use lib.IntN.{ℤ}
-use lib.Ieee.{Float, nan, inf, fin, binary32, up, down, lt, neg, is_nan, of_bits, round, sum, add, sub, div}
+use lib.Ieee.{Float, nan, inf, fin, binary32, up, down, lt, neg, is_nan, of_bits, add, sub, div}
 use lib.Ieee.Fits.{down_pos}
 use lib.Ieee.Scale.{finite}
 use Rattle.numeric.specs.Arith.{◌⊕◌, ◌⊖◌, ◌⊗◌, ◌⊘◌, 𝟎, ½, 𝟐}
 use Rattle.numeric.specs.Numeric.{abs_f, clamp_f, quad_f}
 use Rattle.refusal.proofs.Bools.{clash}
 use Rattle.numeric.proofs.Bounds.{one, mag, Num, rep, value, sub-at-most, mul_is}
-use Rattle.numeric.proofs.Patterns.{round_number, zero_number}
+use Rattle.numeric.proofs.Patterns.{round_number, sum_number, zero_number}
 use Rattle.row_laws.proofs.Signs.{sub-turned, mul-turned}
 use Rattle.row_laws.proofs.Heights.{num-half, half_at_most}
 use Rattle.row_laws.proofs.Subscan.{tiny, num-tiny, mag-tiny, num-two}
@@ -36,15 +36,6 @@ cond-finite true x y f g = f
 cond-finite false x y f g = g
 
 -- ---- a sum or a difference with one of them is a number
-sum-number : (s t : Bool) (a b c : ℕ) → is_nan (sum binary32 s a t b c) ≡ false
-unfolding sum
-sum-number s t a b c = go (beq s t) (ltb a b)
-  where
-    go : (x y : Bool) → is_nan (cond x (round binary32 s (a + b) c) (cond y (round binary32 t (b - a) c) (round binary32 (s && ltb b a) (a - b) c))) ≡ false
-    go true y = round_number binary32 s (a + b) c
-    go false true = round_number binary32 t (b - a) c
-    go false false = round_number binary32 (s && ltb b a) (a - b) c
-
 pub add-number : (x y : Float) → is_nan x ≡ false → T (finite y) → is_nan (x ⊕ y) ≡ false
 unfolding add is_nan
 add-number nan y n f = clash true refl n
@@ -53,7 +44,7 @@ add-number (inf s) (inf t) n f = absurd f
 add-number (inf s) (fin t k d) n f = refl
 add-number (fin s m e) nan n f = absurd f
 add-number (fin s m e) (inf t) n f = absurd f
-add-number (fin s m e) (fin t k d) n f = sum-number s t (m * up e * down d) (k * up d * down e) (down e * down d)
+add-number (fin s m e) (fin t k d) n f = sum_number binary32 s (m * up e * down d) t (k * up d * down e) (down e * down d)
 
 sub-number : (x y : Float) → T (finite x) → is_nan y ≡ false → is_nan (x ⊖ y) ≡ false
 unfolding sub add neg is_nan
@@ -61,8 +52,8 @@ sub-number nan y f n = absurd f
 sub-number (inf s) y f n = absurd f
 sub-number (fin s m e) nan f n = clash true refl n
 sub-number (fin s m e) (inf t) f n = refl
-sub-number (fin s m e) (fin true k d) f n = sum-number s false (m * up e * down d) (k * up d * down e) (down e * down d)
-sub-number (fin s m e) (fin false k d) f n = sum-number s true (m * up e * down d) (k * up d * down e) (down e * down d)
+sub-number (fin s m e) (fin true k d) f n = sum_number binary32 s (m * up e * down d) false (k * up d * down e) (down e * down d)
+sub-number (fin s m e) (fin false k d) f n = sum_number binary32 s (m * up e * down d) true (k * up d * down e) (down e * down d)
 
 -- ---- a finite one over one that is not below some number above zero
 above-zero : (a l b d : ℕ) → a * l ≡ b * d → 0 < b → 0 < d → 0 < a

@@ -1,10 +1,10 @@
 -- What the number of a noise says, and what noise and time step are in the order of floats.
 use mathlib.Core.Path.{◌≡◌, refl, sym, ap, subst}
-use mathlib.Core.Bool.{Bool, true, false, not}
+use mathlib.Core.Bool.{true, false}
 use mathlib.Core.List.{List}
 use Prim.Native.Nat.{ℕ, ◌/◌, ◌-◌, ◌≤◌, ◌<◌}
 use native.Mathlib.Omega.{arith}
-use borrow.Author.Tests.{le-ltb}
+use borrow.Author.Tests.{le-ltb, not-false}
 use lib.Dec.{T}
 use lib.ListN.{length, length-map}
 use lib.Ieee.{Float}
@@ -64,14 +64,10 @@ middle-finite : (xs : List Float) → 1 ≤ length xs → AllPlain xs → AllFin
 unfolding middle
 middle-finite xs h a f = let r = rank-reading xs (length xs / 2) (omega arith) a in subst (λ (x : Float). T (finite x)) r.2 (f r.0 r.1)
 
-in-heights : (b : Bool) → not b ≡ false → b ≡ true
-in-heights true h = refl
-in-heights false h = sym h
-
 pub noise-is : NoiseIs
 unfolding noise_f
 noise-is xs fit z h =
-    let r = in-heights (all_in_range max_height xs) (none-for xs 3 z) in
+    let r = not-false (all_in_range max_height xs) (none-for xs 3 z) in
     let a = all_plain max_height xs (omega arith) r fit in
     let f = all-finite max_height xs (omega arith) r in
     let m = middle xs in

@@ -12,7 +12,8 @@ use Rattle.rt_record.specs.declared.RtPeak1D.{RtPeak1D}
 use Rattle.rt_record.specs.declared.RtLocalPeak.{RtLocalPeak}
 use Rattle.rt_record.specs.RtRecord.{apex_size, rt_size, local_size, apex_words, apex_from, rt_words, rt_peak_from, with_rt_peak, local_words, local_from, with_local}
 use Rattle.rt_record.specs.RoundTrip.{ApexFits, LocalFits, ApexReadFits, LocalReadFits, RtRead, RtGotBack, RtOthersStay, RtSameLength, LocalRead, LocalGotBack, LocalOthersStay, LocalSameLength}
-use Rattle.rt_record.proofs.Laws.{behind, put-length, beside, own-rt, own-local}
+use Rattle.row_record.proofs.Records.{behind, put-length, beside}
+use Rattle.rt_record.proofs.Laws.{own-rt, own-local}
 
 -- every float that is read from a list is one of binary32
 pub apex-fits : ApexReadFits

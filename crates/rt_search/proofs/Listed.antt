@@ -43,7 +43,7 @@ use Rattle.rt_listing.specs.Places.{index_at, area_at, wide, wide_at, height_wor
 use Rattle.rt_search.specs.Steps.{Stands, AllStand, RtFound}
 use Rattle.rt_search.proofs.Orders.{higher-strict, first-decides}
 use Rattle.rt_listing.proofs.Laws.{largest-same, front_below, chosen-places, shares-places, chosen-places-few, shares-few, some_below, some-few}
-use Rattle.std.proofs.lemmas.List.{map-append}
+use Rattle.std.proofs.lemmas.List.{map-append, nil_from_length}
 use Rattle.row_search.proofs.Laws.{measured-index}
 
 -- ---- lists of places
@@ -321,8 +321,4 @@ unfolding kept
 few-none floor y z found m done e =
     let qs = qualifying (asks floor) y z in
     let k = all-kept 0 y qs (omega arith) (qualifying-ascend (asks floor) y z) in
-    length-zero qs (sym (length-reverse qs) ∙ ap length (sym k) ∙ sym done.count ∙ e)
-  where
-    length-zero : (l : List ℕ) → length l ≡ 0 → l ≡ []
-    length-zero [] e = refl
-    length-zero (x ∷ l) e = absurd (omega arith)
+    nil_from_length qs (sym (length-reverse qs) ∙ ap length (sym k) ∙ sym done.count ∙ e)

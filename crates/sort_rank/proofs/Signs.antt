@@ -1,6 +1,6 @@
 -- Values without their signs: their patterns, and that distances of finite readings are numbers with a clear sign.
 use mathlib.Core.Path.{◌≡◌, refl, sym, subst}
-use mathlib.Core.Bool.{Bool, true, false, not, cond, ◌&&◌, beq}
+use mathlib.Core.Bool.{Bool, true, false, not, ◌&&◌}
 use Prim.Native.Nat.{ℕ, zero, suc, ◌+◌, ◌-◌, ◌*◌, ◌/◌, ◌%◌, ◌^◌, ◌≤◌, ◌<◌}
 use native.Mathlib.Omega.{arith}
 use native.Mathlib.Nat.{mul_right_comm, div-lt_iff_lt-mul, zero-mul, mul-pos, mul-lt-mul_of_pos_right}
@@ -8,14 +8,14 @@ use borrow.Author.Tests.{leb-true, le-leb}
 use lib.Dec.{T, ltb, leb, eqb, ltb→lt}
 use lib.IntN.{ℤ}
 use lib.Pow.{pow_pos}
-use lib.Ieee.{Float, nan, inf, fin, Format, binary32, up, down, size, is_nan, to_bits, fits, round, sum, add, sub, neg}
+use lib.Ieee.{Float, nan, inf, fin, binary32, up, down, size, is_nan, to_bits, fits, add, sub, neg}
 use lib.Ieee.Digits.{size-le}
 use lib.Ieee.Fits.{kept-lt, down_pos, and_r, inf-fits, sub-fits}
 use lib.Ieee.Scale.{finite}
 use Rattle.refusal.proofs.Bools.{clash}
 use Rattle.numeric.specs.Numeric.{in_range, abs_f}
 use Rattle.numeric.specs.Plain.{Plain}
-use Rattle.numeric.proofs.Patterns.{plus-bits, round_number, minus_plus}
+use Rattle.numeric.proofs.Patterns.{plus-bits, sum_number, minus_plus}
 
 -- ---- finite values with a clear sign have patterns up to infinity's
 in_all : (k q : ℕ) → k ≤ 253 → q < 2 ^ 24 → k * 2 ^ 23 + q ≤ 0x7f80_0000
@@ -51,17 +51,6 @@ plain-abs (inf s) h n = record { held = inf-fits binary32 false; ranged = unfold
 plain-abs (fin s m e) h n = let k = unsigned s m e h in record { held = k; ranged = fin-ranged m e k }
 
 -- a difference of two finite floats is a number
-number_of : (b : Bool) (x y : Float) → is_nan x ≡ false → is_nan y ≡ false → is_nan (cond b x y) ≡ false
-number_of true x y p q = p
-number_of false x y p q = q
-
-sum_number : (f : Format) (s : Bool) (a : ℕ) (t : Bool) (b c : ℕ) → is_nan (sum f s a t b c) ≡ false
-unfolding sum
-sum_number f s a t b c =
-    number_of (beq s t) (round f s (a + b) c) (cond (ltb a b) (round f t (b - a) c) (round f (s && ltb b a) (a - b) c))
-    (round_number f s (a + b) c)
-    (number_of (ltb a b) (round f t (b - a) c) (round f (s && ltb b a) (a - b) c) (round_number f t (b - a) c) (round_number f (s && ltb b a) (a - b) c))
-
 pub sub_number : (x y : Float) → T (finite x) → T (finite y) → is_nan (sub binary32 x y) ≡ false
 unfolding sub add neg
 sub_number nan y p q = absurd p

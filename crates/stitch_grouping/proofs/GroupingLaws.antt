@@ -1,7 +1,7 @@
 -- What holds of the groups, and of what is written of them.
 use mathlib.Core.Path.{◌≡◌, refl, sym, ap, subst, ◌∙◌}
 use mathlib.Core.Bool.{Bool, true, false, cond}
-use mathlib.Core.List.{List, [], ◌∷◌, ◌++◌, reverse, reverse_aux, reverse-cons, append_assoc, flatten}
+use mathlib.Core.List.{List, [], ◌∷◌, ◌++◌, reverse, reverse-cons, append_assoc, flatten}
 use mathlib.Core.List.Memᴰ
 use mathlib.Core.List.{Memᴰ}
 use mathlib.Core.List.Memᴰ.{head as here}
@@ -12,7 +12,7 @@ use Prim.Native.Nat.{ℕ, zero, suc, ◌+◌, ◌<◌, ◌≤◌}
 use native.Mathlib.Omega.{arith}
 use borrow.Author.Tests.{eqb-true, eqb-false}
 use lib.Dec.{eqb}
-use lib.ListN.{length, get_or, set, length-set}
+use lib.ListN.{length, get_or, set, length-set, length-reverse_aux}
 use lib.Seq.{get_or-set_same, get_or-set_other}
 use Rattle.row_record.specs.declared.ImPeak1D.{ImPeak1D}
 use Rattle.stitch_peaks.specs.PeakList.{nth}
@@ -21,10 +21,6 @@ use Rattle.stitch_keys.specs.declared.KeyRule.{KeyRule}
 use Rattle.stitch_grouping.specs.Grouping.{peaks_at, follows, groups_from, groups}
 use Rattle.stitch_grouping.specs.Walk.{numbered, marked}
 use Rattle.stitch_grouping.specs.GroupingLaws.{GroupsJoin, NoneEmpty, FewGroups, MemberNumber, OtherNumber}
-
-reversed-length : (l r : List ℕ) → length (reverse_aux l r) ≡ length l + length r
-reversed-length [] r = omega arith
-reversed-length (x ∷ l) r = let e = reversed-length l (x ∷ r) in omega arith
 
 -- ---- groups
 
@@ -54,14 +50,14 @@ module _ (rule : KeyRule) (params : StitchParams) (ps : List ImPeak1D) where
   -- no group is empty
   some-from : (g qs : List ℕ) → 0 < length g → (f : List ℕ) → Memᴰ f (groups_from rule params ps g qs) → 0 < length f
   unfolding groups_from
-  some-from g [] h f m = let e : f ≡ reverse g = Memᴰ.eq_of_singleton m in omega (arith, ap length e, reversed-length g [])
+  some-from g [] h f m = let e : f ≡ reverse g = Memᴰ.eq_of_singleton m in omega (arith, ap length e, length-reverse_aux g [])
   some-from g (q ∷ qs) h f m =
       go (follows rule params (peaks_at ps g) (nth ps q)) (some-from (q ∷ g) qs (omega arith) f) (some-from (q ∷ []) qs (omega arith) f) m
     where
       go : (b : Bool) → (Memᴰ f (groups_from rule params ps (q ∷ g) qs) → 0 < length f) → (Memᴰ f (groups_from rule params ps (q ∷ []) qs) → 0 < length f)
           → Memᴰ f (cond b (groups_from rule params ps (q ∷ g) qs) (reverse g ∷ groups_from rule params ps (q ∷ []) qs)) → 0 < length f
       go true i j m = i m
-      go false i j m = ⊎_elim (λ (e : f ≡ reverse g). omega (arith, ap length e, reversed-length g [])) j (Memᴰ.cases_cons m)
+      go false i j m = ⊎_elim (λ (e : f ≡ reverse g). omega (arith, ap length e, length-reverse_aux g [])) j (Memᴰ.cases_cons m)
 
   -- at most as many groups as places
   count-from : (g qs : List ℕ) → length (groups_from rule params ps g qs) ≤ length qs + 1

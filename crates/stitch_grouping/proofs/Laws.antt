@@ -30,7 +30,7 @@ use Rattle.stitch_merging.specs.Merging.{merged}
 use Rattle.stitch_grouping.specs.Grouping.{bucket_by, peaks_at, follows, groups_from, groups, group_peaks}
 use Rattle.stitch_grouping.specs.Walk.{part, Gathered, Columned, Cut, numbered, marked, Grouped}
 use Rattle.stitch_grouping.proofs.GroupingLaws.{groups-join, groups-close}
-use Rattle.sort_digits.proofs.UpTo.{fill-behind}
+use Rattle.numeric.proofs.Lists.{fill-behind}
 
 -- ---- lists
 

@@ -1,7 +1,7 @@
 -- Keys in a buffer.
-use mathlib.Core.Path.{◌≡◌, refl, sym, ap, ◌∙◌}
+use mathlib.Core.Path.{◌≡◌, refl, sym, ◌∙◌}
 use mathlib.Core.Bool.{Bool, true, false}
-use mathlib.Core.List.{List, ◌++◌, append_assoc}
+use mathlib.Core.List.{List, ◌++◌}
 use Prim.Native.Nat.{ℕ, ◌+◌, ◌-◌, ◌*◌, ◌/◌, ◌<◌, ◌≤◌}
 use native.Mathlib.Omega.{arith}
 use native.Mathlib.Nat.{add-mul, div-eq_of_lt-le, le-div_iff_mul-le}
@@ -9,10 +9,10 @@ use native.Mathlib.Numerals.{add-one}
 use borrow.Author.Tests.{ltb-true, ltb-false, eq-eqb, ne_eqb}
 use lib.Dec.{ltb, eqb}
 use lib.ListN.{length, take, drop}
-use lib.Seq.{take_at, drop-append-add, drop-drop}
 use borrow.Rule.Slice.PartMut.{put_mid}
 use Rattle.row_record.specs.Record.{peak_at}
 use Rattle.row_record.proofs.Laws.{put-part}
+use Rattle.numeric.proofs.Lists.{fill-behind}
 use Rattle.stitch_peaks.specs.PeakList.{peaks_of}
 use Rattle.stitch_peaks.proofs.PeakListLaws.{peaks-length}
 use Rattle.stitch_keys.specs.declared.KeyRule.{KeyRule}
@@ -33,14 +33,6 @@ module _ (k w x : ℕ) (some : 0 < w) where
           let far : k + 1 ≤ x / w = (le-div_iff_mul-le some).1 (rw next_start (omega (arith, ltb-false (x - k * w) w e))) in
           sym (ne_eqb k (x / w) (λ (d : k ≡ x / w). omega arith))
 
--- words R written behind the words P at the front of a buffer
-record-step : (P R out d last : List ℕ) (a r : ℕ) → length P ≡ a → out ≡ P ++ drop a d
-    → last ≡ R ++ drop r (take (length out - a) (drop a out)) → put_mid a (length out - a) out last ≡ (P ++ R) ++ drop (a + r) d
-record-step P R out d last a r h e l =
-    let front : take a out ≡ P = ap (take a) e ∙ take_at P (drop a d) a h in
-    let back : drop (a + r) out ≡ drop (a + r) d = ap (drop (a + r)) e ∙ rw (← h) (drop-append-add P (drop (length P) d) r ∙ drop-drop r (length P) d) in
-    put-part out R last a r l ∙ rw (front, back) (sym (append_assoc P R (drop (a + r) d)))
-
 module _ (rule : KeyRule) (words : List ℕ) where
   -- an empty table
   pub table_none : (d : List ℕ) → d ≡ key_table rule (peaks_of words 0) ++ drop 0 d
@@ -54,5 +46,5 @@ module _ (rule : KeyRule) (words : List ℕ) where
   unfolding peaks_of
   table_step out d last k w a b f g h e l =
       let n : length (key_table rule (peaks_of words k)) ≡ a = table-length rule (peaks_of words k) ∙ rw (peaks-length words k, f) (sym g) in
-      record-step (key_table rule (peaks_of words k)) (key_of rule (peak_at words k)) out d last a w n e l
+      put-part out (key_of rule (peak_at words k)) last a w l ∙ fill-behind (key_table rule (peaks_of words k)) (key_of rule (peak_at words k)) d out a w n e
       ∙ rw (add-one, h, table-one rule (peaks_of words k) (peak_at words k))

@@ -21,6 +21,7 @@ use Rattle.stitch_peaks.proofs.Extremes.{lowest-below, lowest-one, highest-above
 use Rattle.stitch_peaks.proofs.PeakListLaws.{read_at}
 use Rattle.sort_digits.specs.Sorted.{up_to}
 use Rattle.sort_digits.proofs.UpTo.{upto-lt, upto-has}
+use Rattle.sort_digits.proofs.SortedLaws.{at-index}
 use Rattle.stitch_matching.specs.declared.StitchParams.{StitchParams}
 use Rattle.stitch_merging.specs.MergingLaws.{low, high}
 use Rattle.stitch_grouping.specs.Grouping.{peaks_at}
@@ -101,10 +102,6 @@ filled : (l : List ℕ) (p : ℕ) → Memᴰ p l → 0 < length l
 filled [] p m = absurd (Memᴰ.not-nil m)
 filled (q ∷ l) p m = omega arith
 
-taken : (l : List ℕ) → 0 < length l → Memᴰ (get_or l 0 0) l
-taken [] h = absurd (omega arith)
-taken (q ∷ l) h = here refl
-
 module _ (params : StitchParams) (ps : List ImPeak1D) (behind behind_owners : List ℕ) (fit : AllFit ps) where
   abbrev column : List ℕ
   column = owners_of params ps ++ behind_owners
@@ -150,7 +147,7 @@ module _ (params : StitchParams) (ps : List ImPeak1D) (behind behind_owners : Li
     members-some : 0 < length (members k)
     members-some =
         let l = brought params ps k in
-        filled (members k) (get_or l 0 0) (to-members k (get_or l 0 0) (taken l (brought-some params ps k second_lt)))
+        filled (members k) (get_or l 0 0) (to-members k (get_or l 0 0) (at-index l 0 (brought-some params ps k second_lt)))
 
     lowest : (f : ImPeak1D → ℕ) → lowest_of f (peaks_at ps (brought params ps k)) ≡ lowest_of f (peaks_at ps (members k))
     lowest f = same-lowest ps f (brought params ps k) (members k) (brought-some params ps k second_lt) members-some (to-members k) (from-members k)

@@ -23,7 +23,8 @@ use Rattle.stitch_peaks.specs.PeakListLaws.{AllFit}
 use Rattle.stitch_peaks.proofs.PeakListLaws.{peaks-length, nth-peaks, words-length, read_back}
 use Rattle.sort_digits.specs.Sorted.{sorted_by, row, up_to}
 use Rattle.sort_digits.proofs.SortedLaws.{at-index, sort-same, sort-none}
-use Rattle.sort_digits.proofs.UpTo.{same_map, upto-get, upto-length, upto-lt, fill-behind}
+use Rattle.sort_digits.proofs.UpTo.{same_map, upto-get, upto-length, upto-lt}
+use Rattle.numeric.proofs.Lists.{fill-behind}
 use Rattle.stitch_matching.specs.declared.StitchParams.{StitchParams}
 use Rattle.stitch_keys.specs.declared.KeyRule.{KeyRule}
 use Rattle.stitch_keys.specs.declared.KeyRule.TheVariants.{First, Identity}

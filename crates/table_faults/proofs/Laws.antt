@@ -2,7 +2,7 @@
 use mathlib.Core.Path.{◌≡◌, refl, sym, ◌∙◌, ap}
 use mathlib.Core.Bool.{Bool, true, false, cond, not, ◌&&◌, ◌||◌}
 use mathlib.Core.List.{List, [], ◌∷◌}
-use Prim.Native.Nat.{ℕ, suc, ◌≤◌, ◌<◌, ◌+◌}
+use Prim.Native.Nat.{ℕ, ◌≤◌, ◌<◌, ◌+◌}
 use native.Mathlib.Omega.{arith}
 use borrow.Author.Tests.{lt-leb, le-leb}
 use lib.Dec.{leb, eqb}
@@ -12,9 +12,10 @@ use lib.Seq.{drop-cons}
 use Rattle.refusal.proofs.Bools.{clash}
 use Rattle.limits.specs.Limits.{max_count, last_row}
 use Rattle.table_text.specs.Sizes.{max_number, max_fields}
-use Rattle.table_text.specs.Text.{comma, onto, fields, is_number, all_numbers, is_row, row_text, params_text, params_from, params_of}
+use Rattle.table_text.specs.Text.{fields, is_number, all_numbers, is_row, row_text, params_text, params_from, params_of}
 use Rattle.std.proofs.Common.{Some, None, Result, Ok, Err}
 use Rattle.std.specs.Result.{is_ok, is_err, result_err, IsErrAnd, IfOk}
+use Rattle.table_text.proofs.Lines.{total, total-line}
 use Rattle.table_text.specs.declared.RowsSoFar.{RowsSoFar}
 use Rattle.table_text.specs.declared.Progress.{Progress}
 use Rattle.table_text.specs.Table.{is_next, opened, counted, verdict}
@@ -33,29 +34,14 @@ error (Ok v) e h = absurd h.1
 error (Err x) e h = ap Some h.1
 
 -- ---- the fields of a line
--- their bytes, and a comma or the end behind each
-unfoldable pub widths : List (List ℕ) → ℕ
-widths [] = 0
-widths (f ∷ fs) = length f + 1 + widths fs
-
-widths-fields : (bs : List ℕ) → widths (fields bs) ≡ length bs + 1
-unfolding widths fields
-widths-fields [] = refl
-widths-fields (b ∷ bs) = go (eqb b comma) (fields bs) (widths-fields bs)
-  where
-    go : (e : Bool) (fs : List (List ℕ)) → widths fs ≡ length bs + 1 → widths (cond e ([] ∷ fs) (onto b fs)) ≡ suc (length bs) + 1
-    go true fs h = omega (arith, h)
-    go false [] h = absurd (omega (arith, h))
-    go false (f ∷ fs) h = omega (arith, h)
-
 -- the first n fields are numbers to their limits, and the next one begins at a place
 pub record Seen (kind : Kind) (line : List ℕ) (n at : ℕ) : Type 0 where
   pub within : all_within kind 1 (fields line) ≡ all_within kind (n + 1) (drop n (fields line))
   pub fault : fields_fault kind 1 0 (fields line) ≡ fields_fault kind (n + 1) at (drop n (fields line))
-  pub place : at + widths (drop n (fields line)) ≡ length line + 1
+  pub place : at + total (drop n (fields line)) ≡ length line + 1
 
 pub seen-none : (kind : Kind) (line : List ℕ) → Seen kind line 0 0
-seen-none kind line = record { within = refl; fault = refl; place = omega (arith, widths-fields line) }
+seen-none kind line = record { within = refl; fault = refl; place = omega (arith, total-line line) }
 
 module _ (kind : Kind) (line : List ℕ) (n at : ℕ) (s : Seen kind line n at) where
   -- the next field
@@ -64,8 +50,8 @@ module _ (kind : Kind) (line : List ℕ) (n at : ℕ) (s : Seen kind line n at) 
     rest = rw add-one (drop-cons (fields line) n f h) ∙ ap (λ (x : List ℕ). x ∷ drop (n + 1) (fields line)) (sym e)
 
     pub seen-room : at + (length f + 1) ≤ length line + 1
-    unfolding widths
-    seen-room = let p : at + widths (f ∷ drop (n + 1) (fields line)) ≡ length line + 1 = rw rest at s.place in omega (arith, p)
+    unfolding total
+    seen-room = let p : at + total (f ∷ drop (n + 1) (fields line)) ≡ length line + 1 = rw rest at s.place in omega (arith, p)
 
     within_here : all_within kind 1 (fields line) ≡ all_within kind (n + 1) (f ∷ drop (n + 1) (fields line))
     within_here = rw rest at s.within
@@ -74,9 +60,9 @@ module _ (kind : Kind) (line : List ℕ) (n at : ℕ) (s : Seen kind line n at) 
     fault_here = rw rest at s.fault
 
     pub seen-next : is_number (limit_of kind (n + 1)) f ≡ true → field_fault kind (n + 1) at f ≡ None → Seen kind line (n + 1) (at + (length f + 1))
-    unfolding all_within fields_fault widths
+    unfolding all_within fields_fault total
     seen-next g e =
-        let p : at + widths (f ∷ drop (n + 1) (fields line)) ≡ length line + 1 = rw rest at s.place in
+        let p : at + total (f ∷ drop (n + 1) (fields line)) ≡ length line + 1 = rw rest at s.place in
         record { within = within_here ∙ rw g; fault = fault_here ∙ rw e; place = omega (arith, p) }
 
     pub seen-bad : is_number (limit_of kind (n + 1)) f ≡ false → all_within kind 1 (fields line) ≡ false

@@ -205,12 +205,12 @@ cr-refused s x y = refused s x cr y refl refl
 
 -- ---- long lines: more than 4,096 fields of 8 digits with their commas
 
--- the bytes of fields, with one more for each
-total : List (List ℕ) → ℕ
+-- the bytes of fields, and of each a comma or the end behind it
+unfoldable pub total : List (List ℕ) → ℕ
 total [] = 0
 total (f ∷ fs) = length f + 1 + total fs
 
-total-line : (line : List ℕ) → total (fields line) ≡ length line + 1
+pub total-line : (line : List ℕ) → total (fields line) ≡ length line + 1
 unfolding total fields
 total-line [] = refl
 total-line (b ∷ bs) = go (eqb b comma) (fields bs) (total-line bs)

@@ -6,21 +6,11 @@ use Rattle.c_rt.proofs.window.put_window.Goals as goal
 
 pub overflow_cast-w : goal.overflow_cast-w
 overflow_cast-w c = let s = c.args in
-    let n = window_number s.peak.now s.ids.now s.times.now s.params in
-    let w = window_of s.ids.now s.times.now s.params (peak_at s.peak.now 0) in
-    let h = c.in_ok-window.ensures in
-    let x = c.in-Some.w in
-    let few = places-few s.peak.now s.ids.now s.times.now s.params x (sym (none-refuses n w c.in_ok-window.window h)) (sym c.in-Some.is ∙ window-is n w c.in_ok-window.window h) in
-    record { fits = few.0 }
+    record { fits = (places-few s.peak.now s.ids.now s.times.now s.params c.in-Some.w c.in_ok-window.window c.in_ok-window.ensures (sym c.in-Some.is)).0 }
 
 pub overflow_cast-w-2 : goal.overflow_cast-w-2
 overflow_cast-w-2 c = let s = c.args in
-    let n = window_number s.peak.now s.ids.now s.times.now s.params in
-    let w = window_of s.ids.now s.times.now s.params (peak_at s.peak.now 0) in
-    let h = c.in_ok-window.ensures in
-    let x = c.in-Some.w in
-    let few = places-few s.peak.now s.ids.now s.times.now s.params x (sym (none-refuses n w c.in_ok-window.window h)) (sym c.in-Some.is ∙ window-is n w c.in_ok-window.window h) in
-    record { fits = few.1 }
+    record { fits = (places-few s.peak.now s.ids.now s.times.now s.params c.in-Some.w c.in_ok-window.window c.in_ok-window.ensures (sym c.in-Some.is)).1 }
 
 pub returns : goal.returns
 returns c = let s = c.args in

@@ -1,6 +1,5 @@
-use Rattle.std.proofs.Common.{◌≡◌, ◌+◌, ◌-◌, ◌*◌, ◌∷◌, [], ◌++◌, take, drop, ap, arith}
+use Rattle.std.proofs.Common.{◌≡◌, ◌+◌, ◌-◌, ◌*◌, ◌∷◌, [], ◌++◌, take, ap, arith}
 use lib.Seq.{drop-drop}
-use borrow.Rule.Slice.PartMut.{put_mid}
 use Rattle.frames_many_traces.proofs.Laws.{kept}
 use Rattle.frames_many_traces.proofs.inner.put_window.Goals as goal
 

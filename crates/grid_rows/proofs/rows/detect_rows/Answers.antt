@@ -1,5 +1,5 @@
 use mathlib.Core.Path.{◌≡◌, refl, ◌∙◌}
-use Prim.Native.Nat.{◌≤◌, ◌<◌, ◌-◌, ◌+◌, ◌*◌, ◌^◌}
+use Prim.Native.Nat.{◌≤◌, ◌-◌, ◌+◌, ◌*◌}
 use native.Mathlib.Omega.{arith}
 use borrow.Author.Rules.{rules, scaled_fits≤}
 use borrow.Rule.Slice.PartMut.{same_len_mid}
@@ -16,52 +16,32 @@ loop-r-init g c = record { out = refl; same = (refl, refl, refl, (refl, refl, re
 pub overflow_mul-at : goal.overflow_mul-at
 overflow_mul-at g c =
     let l = c.loop-r in
-    let at : l.n * c.PLACES.result ≤ length l.out =
-    turn-at (with_weights c.args.kernel.now.weights.now (g.G.Source.grid c.args.grid.now)) c.args.rows.start c.args.rows.end c.requires.rows.0 c.requires.rows.2 l.r l.n l.auto.r (omega arith) l.invariant.done.count
-    g.G.Form.Written.form c.PLACES.result _ _ (c.PLACES.ensures ∙ g.met.G.Form.Written.places) c.requires.rows.1 l.invariant.out in
-    let h = at in search rules
+    let h = turn-at _ _ _ _ c.requires.rows.2 _ _ l.auto.r (omega arith) l.invariant.done.count g.G.Form.Written.form _ _ _ (c.PLACES.ensures ∙ g.met.G.Form.Written.places) c.requires.rows.1 l.invariant.out in search rules
 
 pub overflow_cast-id : goal.overflow_cast-id
 overflow_cast-id g c =
-    let x = c.args in
     let l = c.loop-r in
-    let grid = with_weights x.kernel.now.weights.now (g.G.Source.grid x.grid.now) in
-    let ids : (l.n < 2 ^ 32) × (grid.first + l.n < 2 ^ 32) =
-    turn-ids grid x.rows.start x.rows.end c.requires.rows.0 c.requires.rows.2 l.r l.n l.auto.r (omega arith) l.invariant.done.count (rw c.first.ensures at c.first.type_inv) in
-    let h = ids in search rules
+    let h = turn-ids _ _ _ _ c.requires.rows.2 _ _ l.auto.r (omega arith) l.invariant.done.count (rw c.first.ensures at c.first.type_inv) in search rules
 
 pub overflow_add-id : goal.overflow_add-id
 overflow_add-id g c =
-    let x = c.args in
     let l = c.loop-r in
-    let grid = with_weights x.kernel.now.weights.now (g.G.Source.grid x.grid.now) in
-    let ids : (l.n < 2 ^ 32) × (grid.first + l.n < 2 ^ 32) =
-    turn-ids grid x.rows.start x.rows.end c.requires.rows.0 c.requires.rows.2 l.r l.n l.auto.r (omega arith) l.invariant.done.count (rw c.first.ensures at c.first.type_inv) in
-    rw c.first.ensures (let h = ids in search rules)
+    rw c.first.ensures (let h = turn-ids _ _ _ _ c.requires.rows.2 _ _ l.auto.r (omega arith) l.invariant.done.count (rw c.first.ensures at c.first.type_inv) in search rules)
 
 pub offset_bounds-out-at : goal.offset_bounds-out-at
 offset_bounds-out-at g c =
     let l = c.loop-r in
-    let at : l.n * c.PLACES.result ≤ length l.out =
-    turn-at (with_weights c.args.kernel.now.weights.now (g.G.Source.grid c.args.grid.now)) c.args.rows.start c.args.rows.end c.requires.rows.0 c.requires.rows.2 l.r l.n l.auto.r (omega arith) l.invariant.done.count
-    g.G.Form.Written.form c.PLACES.result _ _ (c.PLACES.ensures ∙ g.met.G.Form.Written.places) c.requires.rows.1 l.invariant.out in
-    let h = at in search (rules, scaled_fits≤)
+    let h = turn-at _ _ _ _ c.requires.rows.2 _ _ l.auto.r (omega arith) l.invariant.done.count g.G.Form.Written.form _ _ _ (c.PLACES.ensures ∙ g.met.G.Form.Written.places) c.requires.rows.1 l.invariant.out in search (rules, scaled_fits≤)
 
 pub slice_bounds-detect_row-count : goal.slice_bounds-detect_row-count
 slice_bounds-detect_row-count g c =
     let l = c.loop-r in
-    let at : l.n * c.PLACES.result ≤ length l.out =
-    turn-at (with_weights c.args.kernel.now.weights.now (g.G.Source.grid c.args.grid.now)) c.args.rows.start c.args.rows.end c.requires.rows.0 c.requires.rows.2 l.r l.n l.auto.r (omega arith) l.invariant.done.count
-    g.G.Form.Written.form c.PLACES.result _ _ (c.PLACES.ensures ∙ g.met.G.Form.Written.places) c.requires.rows.1 l.invariant.out in
-    at
+    turn-at _ _ _ _ c.requires.rows.2 _ _ l.auto.r (omega arith) l.invariant.done.count g.G.Form.Written.form _ _ _ (c.PLACES.ensures ∙ g.met.G.Form.Written.places) c.requires.rows.1 l.invariant.out
 
 pub slice_bounds-detect_row-start : goal.slice_bounds-detect_row-start
 slice_bounds-detect_row-start g c =
     let l = c.loop-r in
-    let at : l.n * c.PLACES.result ≤ length l.out =
-    turn-at (with_weights c.args.kernel.now.weights.now (g.G.Source.grid c.args.grid.now)) c.args.rows.start c.args.rows.end c.requires.rows.0 c.requires.rows.2 l.r l.n l.auto.r (omega arith) l.invariant.done.count
-    g.G.Form.Written.form c.PLACES.result _ _ (c.PLACES.ensures ∙ g.met.G.Form.Written.places) c.requires.rows.1 l.invariant.out in
-    let h = at in search rules
+    let h = turn-at _ _ _ _ c.requires.rows.2 _ _ l.auto.r (omega arith) l.invariant.done.count g.G.Form.Written.form _ _ _ (c.PLACES.ensures ∙ g.met.G.Form.Written.places) c.requires.rows.1 l.invariant.out in search rules
 
 pub detect_row-n-requires-clause-row : goal.detect_row-n-requires-clause-row
 detect_row-n-requires-clause-row g c =

@@ -5,7 +5,8 @@ use mathlib.Core.Logic.{inl, inr}
 use Rattle.std.proofs.Common.{refl}
 use Rattle.numeric.specs.Arith.{◌⊕◌, ◌⊗◌, at}
 use Rattle.row_smoothing.specs.Smoothing.{weighted, met}
-use Rattle.row_smoothing.proofs.Laws.{weighted-in, met-in, none_before, mean-by, front, rest_all}
+use Rattle.row_smoothing.proofs.Laws.{weighted-in, met-in, none_before, mean-by, front}
+use Rattle.std.proofs.lemmas.List.{take_rest}
 use Rattle.row_smoothing.proofs.inner.end_at.Goals.{In-None}
 use Rattle.row_smoothing.proofs.inner.end_at.Goals as goal
 
@@ -14,8 +15,8 @@ loop-w-init c = let u = c.args.u.now in
     let k = c.saturating_sub-left.result in
     let none = none_before u c.args.src.now c.args.i k (λ j p. omega (arith, c.saturating_sub-left.ensures)) in
     let e = c.into_iter-w-iterator.ensures.into_iter_gives in
-    let first : iter_rest (zip_first c.into_iter-w-iterator.result) ≡ drop k u = rw (e, c.zip-w-items.ensures.first) (c.iter.ensures.rest ∙ rest_all u k) in
-    let second : iter_rest (zip_second c.into_iter-w-iterator.result) ≡ drop (c.args.i + k - length u / 2) c.args.src.now = rw e (c.zip-w-items.ensures.second.0 ∙ rest_all c.args.src.now (c.args.i + k - length u / 2)) in
+    let first : iter_rest (zip_first c.into_iter-w-iterator.result) ≡ drop k u = rw (e, c.zip-w-items.ensures.first) (c.iter.ensures.rest ∙ take_rest u k) in
+    let second : iter_rest (zip_second c.into_iter-w-iterator.result) ≡ drop (c.args.i + k - length u / 2) c.args.src.now = rw e (c.zip-w-items.ensures.second.0 ∙ take_rest c.args.src.now (c.args.i + k - length u / 2)) in
     rw add-zero (omega (arith, c.saturating_sub-left.ensures), omega (arith, c.saturating_sub-left.ensures), first, second, sym none.0, sym none.1)
 
 pub loop-w-preserved : goal.loop-w-preserved
