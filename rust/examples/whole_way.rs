@@ -1,23 +1,26 @@
-//! The whole way: frames become an index, the readings of two ranges of frames become grids, their mobility peaks are found, those that
-//! belong together are stitched, and each is followed along retention time.
+//! The whole way from frames to retention peaks: frames become a frame index, the readings of two ranges of frames become grids, the
+//! mobility peaks of each grid are found, those that belong together are stitched, and each is expanded along retention time.
 use rubzolena::*;
 
-const SCALE: TofScale = TofScale { tof_min: 40, tof_max: 60, tof_step: 4, num_bins: 6 };
+/// Nine TOF bins, 0 to 8. The two substances stand in bins 1 and 6. Expansion sums the bins from that of `tof_lo` to that of `tof_hi`, which
+/// is the next bin, and `bin_pad` (2) more on each side: bins 0 to 4 for the first substance, from bin 4 on for the second. So neither shows
+/// in the trace of the other. A second substance in bin 4 would show in the trace of the first where their scans overlap.
+const SCALE: TofScale = TofScale { tof_min: 40, tof_max: 72, tof_step: 4, num_bins: 9 };
 const SCANS: (u32, u32) = (100, 111);
 const FRAMES: u32 = 60;
 
-/// A height that falls evenly to 0 on either side.
+/// A triangle: the height at the centre, falling linearly to 0 at the distance `reach` on each side.
 fn tent(at: u32, centre: f32, reach: f32, height: f32) -> f32 {
     (height * (1.0 - (at as f32 - centre).abs() / reach)).max(0.0)
 }
 
-/// The points of a frame: two substances, one of which comes twice.
+/// The points of a frame: two substances, at TOF 45 and at TOF 65, the second of which elutes twice.
 fn points(frame: u32) -> (Vec<u32>, Vec<u32>, Vec<f32>) {
     let early = tent(frame, 14.0, 5.0, 400.0);
     let twice = tent(frame, 26.0, 4.0, 250.0) + tent(frame, 42.0, 4.5, 300.0);
     let (mut tofs, mut scans, mut readings) = (Vec::new(), Vec::new(), Vec::new());
     for scan in SCANS.0..=SCANS.1 {
-        for (tof, amount) in [(45, early * tent(scan, 103.0, 3.0, 1.0)), (57, twice * tent(scan, 107.0, 4.0, 1.0))] {
+        for (tof, amount) in [(45, early * tent(scan, 103.0, 3.0, 1.0)), (65, twice * tent(scan, 107.0, 4.0, 1.0))] {
             if amount > 0.0 {
                 tofs.push(tof);
                 scans.push(scan);
@@ -28,7 +31,7 @@ fn points(frame: u32) -> (Vec<u32>, Vec<u32>, Vec<f32>) {
     (tofs, scans, readings)
 }
 
-/// The readings of some frames of an index, a row a bin, a column a scan.
+/// The summed readings of a range of frames: one row per bin, one column per scan.
 fn grid(index: &FrameIndex, frames: (u32, u32)) -> Vec<f32> {
     let cols = (SCANS.1 - SCANS.0 + 1) as usize;
     let mut data = vec![0.0; SCALE.num_bins as usize * cols];
@@ -41,7 +44,7 @@ fn grid(index: &FrameIndex, frames: (u32, u32)) -> Vec<f32> {
     data
 }
 
-/// Weights of a sigma, to three times as far.
+/// Gaussian weights, up to three sigma on each side.
 fn weights(sigma: f32) -> Vec<f32> {
     let radius = (3.0 * sigma).ceil() as i32;
     (-radius..=radius).map(|d| (-(d * d) as f32 / (2.0 * sigma * sigma)).exp()).collect()

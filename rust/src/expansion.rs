@@ -29,7 +29,7 @@ extern "C" {
     ) -> u64;
 }
 
-/// What peaks are followed in: the frame index of a run with the scale of its bins, its axes, and the parameters.
+/// A run and the parameters of expansion: the frame index with the scale of its bins, frame numbers and times, and the parameters.
 #[derive(Clone, Copy, Debug)]
 pub struct Run<'a> {
     pub index: Index<'a>,
@@ -38,7 +38,7 @@ pub struct Run<'a> {
     pub params: RtExpandParams,
 }
 
-/// Working space for expansion: a place a frame in each list.
+/// Scratch for expansion: each list has at least one element per frame.
 #[derive(Debug)]
 pub struct ExpandScratch<'a> {
     pub raw: &'a mut [f32],
@@ -46,8 +46,8 @@ pub struct ExpandScratch<'a> {
     pub order: &'a mut [u32],
 }
 
-/// Follows the mobility peak of a record, with the weights of its window's sigma: writes the records of its retention peaks, 22 words
-/// each, to the front of `out` and answers their count. Or answers with a number and leaves all lists as they were.
+/// Expands the mobility peak of a record, with the weights for the sigma of its window: writes the records of its retention peaks, 22 words
+/// each, to the front of `out` (at least `22 * most_rt_peaks(frames)` elements), and returns their number.
 pub fn expand_im_peak_into(
     peak: &[u32],
     run: Run,
@@ -58,7 +58,7 @@ pub fn expand_im_peak_into(
 ) -> Result<usize, u32> {
     let (Run { index: i, scale: s, ctx, params: p }, ExpandScratch { raw, smooth, order }) = (run, scratch);
     let (ids, times, (kind, value)) = (ctx.frame_ids_sorted, ctx.rt_times_sec, p.min_prom.told());
-    // the four lists are borrowed for writing, so that none overlaps another list
+    // the four lists are borrowed mutably, so none overlaps another list
     let answer = unsafe {
         rubzolena_expand_im_peak(
             peak.as_ptr(), peak.len(),
@@ -76,9 +76,10 @@ pub fn expand_im_peak_into(
     crate::answered(answer)
 }
 
-/// Follows the mobility peaks of all records of `list`, 27 words each. The weights of all peaks are joined, `lengths` has the count of
-/// each peak's. Writes the records of all retention peaks one after another to the front of `out`, each mobility peak's count to the
-/// front of `counts`, and answers how many there are. Or answers with a number and leaves all lists as they were.
+/// Expands the mobility peaks of all n records of `list`, 27 words each. `weights` has the weights of all peaks, one list after another, and
+/// `lengths` the number of weights of each peak. Writes the records of all retention peaks to the front of `out` (at least
+/// `22 * n * most_rt_peaks(frames)` elements), the number of each mobility peak's retention peaks to the front of `counts` (at least n
+/// elements), and returns the number of all retention peaks.
 #[allow(clippy::too_many_arguments)]
 pub fn expand_many_im_peaks_into(
     list: &[u32],
@@ -92,7 +93,7 @@ pub fn expand_many_im_peaks_into(
 ) -> Result<usize, u32> {
     let (Run { index: i, scale: s, ctx, params: p }, ExpandScratch { raw, smooth, order }) = (run, scratch);
     let (ids, times, (kind, value)) = (ctx.frame_ids_sorted, ctx.rt_times_sec, p.min_prom.told());
-    // the five lists are borrowed for writing, so that none overlaps another list
+    // the five lists are borrowed mutably, so none overlaps another list
     let answer = unsafe {
         rubzolena_expand_many_im_peaks(
             list.as_ptr(), list.len(),
@@ -110,13 +111,13 @@ pub fn expand_many_im_peaks_into(
     crate::answered(answer)
 }
 
-/// The most retention peaks that a mobility peak can have in a run of that many frames.
+/// The maximum number of retention peaks of a mobility peak in a run of that many frames: (frames - 1) / 2, and at least 1.
 pub fn most_rt_peaks(frames: usize) -> usize {
     (frames.saturating_sub(1) / 2).max(1)
 }
 
-/// The retention peaks of all mobility peaks and the count of each one's, or a number. Both calls: `weights` makes the weights of a
-/// sigma in frames; a peak without a window takes one weight.
+/// The retention peaks of all mobility peaks, and the number of each one's. Makes both calls: `weights` makes the weights for a sigma in
+/// frames; a peak without a window takes one weight.
 pub fn expand_im_peaks(
     peaks: &[Peak],
     run: Run,

@@ -1,5 +1,5 @@
-//! The frame index of a run, with the points of all frames, by bin within a frame, in joined lists; marginals and retention traces,
-//! which are sums over it.
+//! The frame index of a run (the points of all frames, sorted by bin within each frame), and sums over it: marginals and extracted ion
+//! chromatograms (retention traces).
 use crate::{Peak, TofScale};
 
 extern "C" {
@@ -39,7 +39,7 @@ extern "C" {
     ) -> u64;
 }
 
-/// The points of a frame: TOF value, absolute scan and reading of each.
+/// The points of a frame: TOF value, absolute scan and reading of each point.
 #[derive(Clone, Copy, Debug, Default)]
 pub struct Frame<'a> {
     pub tofs: &'a [u32],
@@ -47,7 +47,7 @@ pub struct Frame<'a> {
     pub readings: &'a [f32],
 }
 
-/// Room for a frame's part of an index: a place a point in each list, and one more in `offsets`.
+/// Output lists for a frame's part of an index. For n points each has at least n elements, `offsets` at least n + 1.
 #[derive(Debug)]
 pub struct FrameRoom<'a> {
     pub bins: &'a mut [u32],
@@ -56,7 +56,7 @@ pub struct FrameRoom<'a> {
     pub readings: &'a mut [f32],
 }
 
-/// Working space for a frame: a word a point in each list.
+/// Scratch for a frame: each list has at least one element per point.
 #[derive(Debug)]
 pub struct FrameScratch<'a> {
     pub keys: &'a mut [u32],
@@ -64,9 +64,8 @@ pub struct FrameScratch<'a> {
     pub spare: &'a mut [u32],
 }
 
-/// Writes a frame's distinct bins, their offsets from `base` on, and the scans and readings of its points that have a bin to the
-/// front of four lists, and answers the counts of bins and of points. Or answers with a number and leaves all seven lists as they
-/// were.
+/// Writes the distinct bins of a frame, their offsets (counted from `base`), and the scans and readings of its points that have a bin to the
+/// front of the four lists of `room`. Returns the number of bins and the number of points.
 pub fn build_frame_bin_view_into(
     frame: Frame,
     scale: TofScale,
@@ -77,7 +76,7 @@ pub fn build_frame_bin_view_into(
 ) -> Result<(usize, usize), u32> {
     let (Frame { tofs, scans, readings }, s) = (frame, scale);
     let (out, FrameScratch { keys, order, spare }) = (room, scratch);
-    // the seven lists are borrowed for writing, so that none overlaps another list
+    // the seven lists are borrowed mutably, so none overlaps another list
     let answer = unsafe {
         rubzolena_build_frame_bin_view(
             tofs.as_ptr(), tofs.len(), scans.as_ptr(), scans.len(), readings.as_ptr(), readings.len(),
@@ -91,21 +90,21 @@ pub fn build_frame_bin_view_into(
     Ok((bins, out.offsets[bins] as usize - base))
 }
 
-/// The frames of a run, joined.
+/// The frame index of a run.
 #[derive(Clone, Debug, PartialEq)]
 pub struct FrameIndex {
-    /// For each frame the place of its first bin; behind the last one the count of bins.
+    /// For each frame the position in `bins` of its first bin; at the end the number of bins.
     pub starts: Vec<u32>,
     /// The distinct bins of each frame.
     pub bins: Vec<u32>,
-    /// For each bin the place of its first point; behind the last one the count of points.
+    /// For each bin the position in `scans` and `readings` of its first point; at the end the number of points.
     pub offsets: Vec<u32>,
     pub scans: Vec<u32>,
     pub readings: Vec<f32>,
 }
 
 impl Default for FrameIndex {
-    /// No frames.
+    /// An index of no frames.
     fn default() -> Self {
         FrameIndex { starts: vec![0], bins: Vec::new(), offsets: vec![0], scans: Vec::new(), readings: Vec::new() }
     }
@@ -116,7 +115,7 @@ impl FrameIndex {
         self.starts.len() - 1
     }
 
-    /// Adds a frame behind the others; or answers with a number and leaves the index as it was.
+    /// Appends a frame. If it is refused, the index is unchanged.
     pub fn push(&mut self, frame: Frame, scale: TofScale, global_num_scans: u32) -> Result<(), u32> {
         let (n, b, p) = (frame.tofs.len(), self.bins.len(), self.scans.len());
         self.resize(b + n, p + n);
@@ -145,7 +144,7 @@ impl FrameIndex {
     }
 }
 
-/// A frame index as five lists, which may be any.
+/// A frame index as five lists, which need not be sound: each call checks them.
 #[derive(Clone, Copy, Debug)]
 pub struct Index<'a> {
     pub starts: &'a [u32],
@@ -161,7 +160,7 @@ impl<'a> From<&'a FrameIndex> for Index<'a> {
     }
 }
 
-/// Frames, bins and scans of an index, ends included.
+/// Ranges of frames, bins and scans of an index, both ends included.
 #[derive(Clone, Copy, Debug, Default)]
 pub struct Block {
     pub frames: (u32, u32),
@@ -169,11 +168,11 @@ pub struct Block {
     pub scans: (u32, u32),
 }
 
-/// Calls an entry with the five lists of an index, further numbers, and a list for sums.
+/// Calls a C entry with the five lists of an index, further arguments, and the list for the sums.
 macro_rules! summed {
     ($entry:ident, $index:expr, $($number:expr),+ ; $out:expr $(, $more:expr)*) => {{
         let (i, out) = ($index, $out);
-        // the written lists are borrowed for writing, so that none overlaps another list
+        // the written lists are borrowed mutably, so none overlaps another list
         crate::answered(unsafe {
             $entry(
                 i.starts.as_ptr(), i.starts.len(), i.bins.as_ptr(), i.bins.len(), i.offsets.as_ptr(), i.offsets.len(),
@@ -184,23 +183,25 @@ macro_rules! summed {
     }};
 }
 
-/// For each frame of a block the sum of its readings there, at the front of `out`; answers how many. Or answers with a number and leaves
-/// `out` as it was.
+/// Marginal along retention time: writes for each frame of the block the sum of its readings in the block to the front of `out`, and
+/// returns the number of frames of the block.
 pub fn build_rt_marginal_into(index: Index, b: Block, out: &mut [f32]) -> Result<usize, u32> {
     summed!(rubzolena_build_rt_marginal, index, b.frames.0, b.frames.1, b.bins.0, b.bins.1, b.scans.0, b.scans.1; out)
 }
 
-/// For each scan of a block the sum of its readings there.
+/// Marginal along mobility: writes for each scan of the block the sum of its readings in the block to the front of `out`, and returns the
+/// number of scans of the block.
 pub fn build_im_marginal_into(index: Index, b: Block, out: &mut [f32]) -> Result<usize, u32> {
     summed!(rubzolena_build_im_marginal, index, b.frames.0, b.frames.1, b.bins.0, b.bins.1, b.scans.0, b.scans.1; out)
 }
 
-/// For each frame the sum of its readings with bins around a row and with scans in a range; answers the count of frames.
+/// Extracted ion chromatogram around a TOF row: writes for each frame the sum of its readings with a bin at most `bin_pad` from the row and a
+/// scan in the range to the front of `out`, and returns the number of frames.
 pub fn rt_trace_for_im_peak_into(index: Index, tof_row: u32, bin_pad: u32, scans: (u32, u32), out: &mut [f32]) -> Result<usize, u32> {
     summed!(rubzolena_rt_trace_for_im_peak, index, tof_row, bin_pad, scans.0, scans.1; out)
 }
 
-/// The same with the bins of TOF bounds, and some more on either side.
+/// The same with the bins of two TOF bounds, and `pad` more on each side.
 pub fn rt_trace_for_im_peak_by_bounds_into(
     index: Index,
     scale: TofScale,
@@ -216,8 +217,9 @@ pub fn rt_trace_for_im_peak_by_bounds_into(
     )
 }
 
-/// The traces by bounds of all records of `list`, 27 words each, one after another; answers the count of records. `windows` is working
-/// space, four words a record. Or answers with a number and leaves both lists as they were.
+/// The extracted ion chromatograms of all records of `list`, 27 words each, over their TOF and scan bounds: writes them one after another
+/// to the front of `out` (at least one element per record and frame), and returns the number of records. `windows` is scratch of at least
+/// four elements per record.
 pub fn rt_traces_for_im_peaks_by_bounds_into(
     index: Index,
     scale: TofScale,
@@ -233,7 +235,7 @@ pub fn rt_traces_for_im_peaks_by_bounds_into(
     )
 }
 
-/// How many a range has, ends included; none where it is reversed.
+/// The number of elements of a range, both ends included; 0 if it is reversed.
 fn count((lo, hi): (u32, u32)) -> usize {
     (hi as usize + 1).saturating_sub(lo as usize)
 }
@@ -249,13 +251,13 @@ impl FrameIndex {
         build_im_marginal_into(self.into(), b, &mut out).map(|_| out)
     }
 
-    /// The trace around a row.
+    /// The extracted ion chromatogram around a TOF row.
     pub fn rt_trace(&self, tof_row: u32, bin_pad: u32, scans: (u32, u32)) -> Result<Vec<f32>, u32> {
         let mut out = vec![0.0; self.frames()];
         rt_trace_for_im_peak_into(self.into(), tof_row, bin_pad, scans, &mut out).map(|_| out)
     }
 
-    /// The traces of peaks, one after another, each with a sum a frame.
+    /// The extracted ion chromatograms of peaks, one after another, each with one sum per frame.
     pub fn rt_traces(&self, scale: TofScale, peaks: &[Peak], pad: u32) -> Result<Vec<f32>, u32> {
         let list: Vec<u32> = peaks.iter().flat_map(|p| p.0).collect();
         let (mut out, mut windows) = (vec![0.0; peaks.len() * self.frames()], vec![0; 4 * peaks.len()]);

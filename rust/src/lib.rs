@@ -1,5 +1,11 @@
-//! Rubzolena's grid detection, stitching, frame index, marginals, retention traces and expansion along retention time for Rust programs:
-//! safe functions over the C entries. Words and floats are handed over as they lie in memory, which is the byte rule of grid detection on a little-endian machine.
+//! Rubzolena for Rust programs: grid detection, stitching, frame index, marginals, extracted ion chromatograms (retention traces) and
+//! expansion along retention time. These are safe functions over the C entries; include/rubzolena.h has the conditions of all arguments.
+//!
+//! The error of a `Result` is the refusal code of include/rubzolena.h. After a refusal all lists that were borrowed for writing are
+//! unchanged.
+//!
+//! Lists are passed as they stand in memory. Grid detection expects the least significant byte first, so the crate compiles on
+//! little-endian machines only.
 #[cfg(not(target_endian = "little"))]
 compile_error!("the C entry takes little-endian words");
 
@@ -34,13 +40,13 @@ extern "C" {
     ) -> u64;
 }
 
-/// Words of a record.
+/// Words of the record of a mobility peak.
 pub const WORDS: usize = 27;
 
-/// The number of a list that is shorter than the sizes allow; every lower one comes before it.
+/// The refusal code of an output list that is too short. All lower codes come before it.
 const LIST_TOO_SHORT: u32 = 20;
 
-/// The scale of the rows: lowest and highest TOF, both multiples of the step, and the count of bins.
+/// The TOF scale of the rows: lowest and highest TOF value, both multiples of the step, and the number of bins.
 #[derive(Clone, Copy, Debug, Default)]
 pub struct TofScale {
     pub tof_min: u32,
@@ -49,7 +55,7 @@ pub struct TofScale {
     pub num_bins: u32,
 }
 
-/// What detection is handed. An empty `data_raw` means that there is none, an empty `mobility` or `weights` likewise.
+/// The input of grid detection. An empty `data_raw`, `mobility` or `weights` means that there is none.
 #[derive(Clone, Copy, Debug, Default)]
 pub struct Grid<'a> {
     pub rows: usize,
@@ -69,7 +75,7 @@ pub struct Grid<'a> {
     pub first: u32,
 }
 
-/// A mobility peak, as its words stand in a record.
+/// A mobility peak: the words of its record.
 #[derive(Clone, Copy, Debug, PartialEq)]
 pub struct Peak(pub [u32; WORDS]);
 
@@ -108,7 +114,7 @@ fn peaks(list: &[u32]) -> Vec<Peak> {
     list.chunks_exact(WORDS).map(|w| Peak(w.try_into().unwrap())).collect()
 }
 
-/// What an entry answered: a count, or a number.
+/// The result of a C entry: a count, or the refusal code.
 fn answered(answer: u64) -> Result<usize, u32> {
     match (answer / 64, answer % 64) {
         (count, 0) => Ok(count as usize),
@@ -116,24 +122,24 @@ fn answered(answer: u64) -> Result<usize, u32> {
     }
 }
 
-/// What the entry takes as a word: four bytes without padding. Private, so that there are no others.
+/// Types that a C entry takes as a word: four bytes without padding. Private, so that there are no others.
 trait Word {}
 impl Word for u32 {}
 impl Word for f32 {}
 
 fn bytes<T: Word>(list: &[T]) -> &[u8] {
-    // each element of a list of words is four bytes that are all written, and a byte needs no alignment
+    // each element of a list of words is four initialised bytes, and a byte needs no alignment
     unsafe { from_raw_parts(list.as_ptr().cast(), size_of_val(list)) }
 }
 
 impl Grid<'_> {
-    /// The peaks that a grid of these sizes can have.
+    /// The maximum number of peaks of a grid of this size: rows * ((cols - 1) / 2), and 0 if there are no columns.
     pub fn most_peaks(&self) -> usize {
         self.rows.saturating_mul(self.cols.saturating_sub(1) / 2)
     }
 
-    /// Writes the peaks' records to the front of `out`, 27 words each, and answers their count; or answers with a number and
-    /// leaves `out` as it was.
+    /// Writes the records of the peaks to the front of `out`, 27 words each, and returns their number. `out` has at least
+    /// `most_peaks() * WORDS` elements.
     pub fn detect_into(&self, out: &mut [u32]) -> Result<usize, u32> {
         let (data, raw, scans) = (bytes(self.data), bytes(self.data_raw), bytes(self.scans));
         let (mobility, weights) = (bytes(self.mobility), bytes(self.weights));
@@ -154,10 +160,10 @@ impl Grid<'_> {
         answered(answer)
     }
 
-    /// The peaks, or a number. Nothing is allocated for a grid that a number below 20 refuses, whatever sizes it claims.
+    /// The peaks. Nothing is allocated for a grid that is refused with a code below 20, whatever its sizes claim to be.
     pub fn detect(&self) -> Result<Vec<Peak>, u32> {
-        // With an empty list the entry answers 20 exactly where no lower number applies and a list is needed. Then the readings
-        // are there, rows * cols of them, so that the list is at most 14 times as long as they are.
+        // With an empty list the entry returns 20 exactly where no lower code applies and a list is needed. Then rows * cols
+        // readings are there, so that the list is at most 14 times as long as they are.
         match self.detect_into(&mut []) {
             Err(LIST_TOO_SHORT) => {}
             answer => return answer.map(|_| Vec::new()),

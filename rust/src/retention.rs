@@ -1,4 +1,4 @@
-//! Retention: the noise of a trace, its retention peaks, the fallback, and the first call of expansion.
+//! Retention peaks: the noise of a trace, its retention peaks, the fallback, and the first call of expansion.
 use crate::Peak;
 
 extern "C" {
@@ -20,12 +20,13 @@ extern "C" {
     ) -> u64;
 }
 
-/// Words of the record of a retention peak, of one of a lone trace, and of a window.
+/// Words of the record of a retention peak, of a retention peak of a single trace, and of a window.
 pub const RT_WORDS: usize = 22;
 pub const LOCAL_WORDS: usize = 13;
 pub const WINDOW_WORDS: usize = 3;
 
-/// How the floor for heights and prominences of a trace is found: a value, or a multiple of the trace's noise.
+/// The threshold of a trace, for topographic prominences and for its highest raw reading. `Fixed(v)`: v, or 3 times the noise of the
+/// smoothed trace if that is higher. `AdaptiveNoise(s)`: s times that noise, or 1 if there is no noise.
 #[derive(Clone, Copy, Debug, PartialEq)]
 pub enum ThresholdMode {
     Fixed(f32),
@@ -33,7 +34,7 @@ pub enum ThresholdMode {
 }
 
 impl ThresholdMode {
-    /// The number of its kind, and its float.
+    /// Its kind and its float, as C takes them.
     pub(crate) fn told(self) -> (u32, f32) {
         match self {
             ThresholdMode::Fixed(value) => (0, value),
@@ -48,8 +49,8 @@ impl Default for ThresholdMode {
     }
 }
 
-/// The parameters of expansion. Counts go to 65,535, seconds from 0 to 2^20, the fraction from 0 to 1, a threshold's float from 0 to
-/// 2^33. Smoothing truncation is not among them: weights come from the caller.
+/// The parameters of expansion. Counts are 0 to 65,535, seconds 0 to 2^20, the fraction 0 to 1, a threshold's float 0 to 2^33. The
+/// truncation of the smoothing is not among them: the caller makes the weights.
 #[derive(Clone, Copy, Debug)]
 pub struct RtExpandParams {
     pub bin_pad: u32,
@@ -77,14 +78,14 @@ impl Default for RtExpandParams {
     }
 }
 
-/// The frames of a run: their numbers, strictly rising, and their times in seconds, not falling.
+/// The frames of a run: their frame numbers, strictly rising, and their times in seconds, not falling.
 #[derive(Clone, Copy, Debug, Default)]
 pub struct RtTraceCtx<'a> {
     pub frame_ids_sorted: &'a [u32],
     pub rt_times_sec: &'a [f32],
 }
 
-/// A retention peak, as its words stand in a record.
+/// A retention peak: the words of its record.
 #[derive(Clone, Copy, Debug, PartialEq)]
 pub struct RtPeak(pub [u32; RT_WORDS]);
 
@@ -113,7 +114,8 @@ impl RtPeak {
         f32::from_bits(self.0[8])
     }
 
-    /// The first frame and the last, by place in the run. After the fallback they can stand reversed.
+    /// The first frame and the last: positions in the run, or in the trace where `fallback_rt_peak` made the peak. Expansion can give them
+    /// reversed where it takes the fallback.
     pub fn rt_bounds(&self) -> (u32, u32) {
         (self.0[10], self.0[11])
     }
@@ -132,7 +134,7 @@ impl RtPeak {
     }
 }
 
-/// The frames over which a mobility peak is followed, by place in the run and ends included, and the sigma of its smoothing in frames.
+/// The frames over which a mobility peak is followed (positions in the run, both included), and the sigma of the smoothing in frames.
 #[derive(Clone, Copy, Debug, PartialEq)]
 pub struct RtWindow {
     pub first: u32,
@@ -140,13 +142,13 @@ pub struct RtWindow {
     pub sigma: f32,
 }
 
-/// The noise of a trace; or a number.
+/// The noise of a trace: 1.4826 * MAD, with upper medians; 0 for fewer than three readings.
 pub fn robust_noise_mad(signal: &[f32]) -> Result<f32, u32> {
     let answer = unsafe { rubzolena_robust_noise_mad(signal.as_ptr(), signal.len()) };
     crate::answered(answer).map(|bits| f32::from_bits(bits as u32))
 }
 
-/// What a trace is searched for.
+/// The parameters of the search of a trace.
 #[derive(Clone, Copy, Debug)]
 pub struct RtSearch {
     pub min_prom: ThresholdMode,
@@ -154,8 +156,8 @@ pub struct RtSearch {
     pub min_width_sec: f32,
 }
 
-/// Writes the records of a trace's retention peaks, 13 words each, to the front of `out` and answers their count. `scratch` is working
-/// space, a word a frame. Or answers with a number and leaves both lists as they were.
+/// Writes the records of the retention peaks of a trace of n frames, 13 words each, to the front of `out` (at least 13 * ((n - 1) / 2)
+/// elements), and returns their number. `scratch` has at least n elements.
 pub fn find_rt_peaks_into(
     y_smoothed: &[f32],
     y_raw: &[f32],
@@ -165,7 +167,7 @@ pub fn find_rt_peaks_into(
     scratch: &mut [u32],
 ) -> Result<usize, u32> {
     let (kind, value) = search.min_prom.told();
-    // both lists are borrowed for writing, so that none overlaps another list
+    // both lists are borrowed mutably, so none overlaps another list
     let answer = unsafe {
         rubzolena_find_rt_peaks(
             y_smoothed.as_ptr(), y_smoothed.len(), y_raw.as_ptr(), y_raw.len(), times.as_ptr(), times.len(),
@@ -176,8 +178,8 @@ pub fn find_rt_peaks_into(
     crate::answered(answer)
 }
 
-/// Writes the record of the one retention peak of a trace that is not searched, 22 words, to the front of `out`, and answers whether
-/// there is one. Frames are counted from the first of the trace. Or answers with a number and leaves `out` as it was.
+/// The fallback: writes the record of the one retention peak of a trace that is not searched, 22 words, to the front of `out`, and returns
+/// whether there is one. Frames are counted from the first of the trace.
 pub fn fallback_rt_peak_into(
     trace: &[f32],
     ctx: RtTraceCtx,
@@ -187,7 +189,7 @@ pub fn fallback_rt_peak_into(
     out: &mut [u32],
 ) -> Result<bool, u32> {
     let (ids, times) = (ctx.frame_ids_sorted, ctx.rt_times_sec);
-    // `out` is borrowed for writing, so that it overlaps no other list
+    // `out` is borrowed mutably, so it overlaps no other list
     let answer = unsafe {
         rubzolena_fallback_rt_peak(
             trace.as_ptr(), trace.len(), ids.as_ptr(), ids.len(), times.as_ptr(), times.len(),
@@ -197,18 +199,18 @@ pub fn fallback_rt_peak_into(
     crate::answered(answer).map(|count| count == 1)
 }
 
-/// That peak, or none, or a number.
+/// That peak, or none if no reading is above 0.
 pub fn fallback_rt_peak(trace: &[f32], ctx: RtTraceCtx, peak: &Peak, frac: f32, first: u32) -> Result<Option<RtPeak>, u32> {
     let mut out = [0; RT_WORDS];
     Ok(fallback_rt_peak_into(trace, ctx, &peak.0, frac, first, &mut out)?.then_some(RtPeak(out)))
 }
 
-/// Writes the window of the mobility peak of a record to the front of `out` (first frame, last frame, bits of sigma) and answers
-/// whether there is one. Or answers with a number and leaves `out` as it was.
+/// Writes the window of the mobility peak of a record to the front of `out` (first frame, last frame, bit pattern of sigma), and returns
+/// whether there is one.
 pub fn expand_window_into(peak: &[u32], ctx: RtTraceCtx, params: RtExpandParams, out: &mut [u32]) -> Result<bool, u32> {
     let (ids, times, p) = (ctx.frame_ids_sorted, ctx.rt_times_sec, params);
     let (kind, value) = p.min_prom.told();
-    // `out` is borrowed for writing, so that it overlaps no other list
+    // `out` is borrowed mutably, so it overlaps no other list
     let answer = unsafe {
         rubzolena_expand_window(
             peak.as_ptr(), peak.len(), ids.as_ptr(), ids.len(), times.as_ptr(), times.len(),
@@ -220,7 +222,7 @@ pub fn expand_window_into(peak: &[u32], ctx: RtTraceCtx, params: RtExpandParams,
     crate::answered(answer).map(|count| count == 1)
 }
 
-/// The window, or none where a frame number of the peak is not found in the run, or a number.
+/// The window, or none if a frame number of the peak is not found in the run.
 pub fn expand_window(peak: &Peak, ctx: RtTraceCtx, params: RtExpandParams) -> Result<Option<RtWindow>, u32> {
     let mut w = [0; WINDOW_WORDS];
     let there = expand_window_into(&peak.0, ctx, params, &mut w)?;

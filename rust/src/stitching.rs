@@ -1,4 +1,4 @@
-//! Stitching: the peaks of a list that belong together become one peak.
+//! Stitching: merges the peaks of a list that belong together.
 use crate::{Peak, WORDS};
 
 extern "C" {
@@ -12,7 +12,7 @@ extern "C" {
     ) -> u64;
 }
 
-/// Which peaks belong together. Counts go to 65,535, shares from 0 to 1.
+/// Which peaks belong together. Counts are 0 to 65,535, Jaccard indices 0 to 1.
 #[derive(Clone, Copy, Debug, Default)]
 pub struct StitchParams {
     pub min_overlap_frames: u32,
@@ -25,7 +25,7 @@ pub struct StitchParams {
     pub require_mutual_apex_inside: bool,
 }
 
-/// Working space for n peaks: a word a peak in `order` and `groups`, a record a peak in `keys` and `merged`.
+/// Scratch for n peaks: `order` and `groups` have at least n elements, `keys` and `merged` at least 27 * n.
 #[derive(Debug)]
 pub struct Scratch<'a> {
     pub order: &'a mut [u32],
@@ -34,12 +34,12 @@ pub struct Scratch<'a> {
     pub merged: &'a mut [u32],
 }
 
-/// Stitches the records of `list`, 27 words each: writes the stitched records to the front of `out` and for each record of
-/// `list` the place of its stitched one to the front of `owners`, and answers the count of stitched records. Or answers with a
-/// number and leaves all six buffers as they were.
+/// Stitches the n records of `list`, 27 words each. Writes the records of the stitched peaks to the front of `out` (at least 27 * n
+/// elements) and, for each record of `list`, the position of its stitched peak to the front of `owners` (at least n elements). Returns the
+/// number of stitched peaks.
 pub fn stitch_into(list: &[u32], params: StitchParams, out: &mut [u32], owners: &mut [u32], scratch: Scratch) -> Result<usize, u32> {
     let (p, Scratch { order, groups, keys, merged }) = (params, scratch);
-    // the six buffers are borrowed for writing, so that none overlaps another list
+    // the six lists are borrowed mutably, so none overlaps another list
     let answer = unsafe {
         rubzolena_stitch_im_peaks(
             list.as_ptr(), list.len(),
@@ -53,7 +53,7 @@ pub fn stitch_into(list: &[u32], params: StitchParams, out: &mut [u32], owners: 
     crate::answered(answer)
 }
 
-/// The stitched peaks and, for each peak handed in, the place of its stitched one; or a number.
+/// The stitched peaks and, for each of `peaks`, the position of its stitched peak.
 pub fn stitch(peaks: &[Peak], params: StitchParams) -> Result<(Vec<Peak>, Vec<u32>), u32> {
     let n = peaks.len();
     let list: Vec<u32> = peaks.iter().flat_map(|p| p.0).collect();

@@ -1,4 +1,4 @@
-//! The frame index through the crate's functions: frames joined, sums over them, and what is refused.
+//! The frame index through the functions of the crate: frames are joined, sums over them, and refused input.
 use rubzolena::*;
 
 const SCALE: TofScale = TofScale { tof_min: 0, tof_max: 8, tof_step: 4, num_bins: 3 };

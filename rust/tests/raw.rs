@@ -1,4 +1,5 @@
-//! The C entries called as no safe caller does: byte lengths that are no whole words, flags above 1, and thresholds of no kind.
+//! The C entries, called as the safe functions never call them: byte lengths that are not multiples of 4, flags above 1, unknown kinds of
+//! threshold.
 use rubzolena as _;
 
 extern "C" {
@@ -60,7 +61,7 @@ fn plain() -> Call {
     }
 }
 
-/// What is answered, and the bytes of the list, which held 0xa5.
+/// The result, and the bytes of the list, which held 0xa5 before.
 fn answer(c: &Call) -> (u64, Vec<u8>) {
     let mut out = vec![0xa5u8; c.room];
     let r = unsafe {
@@ -114,8 +115,8 @@ fn a_flag_above_one() {
     }
 }
 
-/// What stitching answers for two equal peaks with those identities, flags and parameter, and whether its buffers, of that many
-/// words each, are as they were.
+/// The result of stitching for two equal peaks with those identities, flags and parameter, and whether its buffers, of that many
+/// words each, are unchanged.
 fn stitched(ids: [u32; 2], flags: [u32; 2], delta: u32, room: usize) -> (u64, bool) {
     let mut list = [0u32; 54];
     (list[26], list[53]) = (ids[0], ids[1]);
@@ -146,7 +147,7 @@ fn a_flag_of_stitching_above_one() {
     }
 }
 
-/// What a search of the trace `0 4 0` answers for a threshold, readings up to `high`, and that much room.
+/// The result of a search of the trace `0 4 0` for a threshold, readings up to `high`, and an output list of that length.
 fn searched(kind: u32, high: f32, room: usize) -> (u64, bool) {
     let (y, times, mut out, mut scratch) = ([0.0, high, 0.0], [1.0f32, 2.0, 3.0], [0xa5a5_a5a5u32; 13], [0xa5a5_a5a5u32; 3]);
     let r = unsafe {
@@ -157,7 +158,7 @@ fn searched(kind: u32, high: f32, room: usize) -> (u64, bool) {
     (r, out.iter().chain(&scratch).all(|w| *w == 0xa5a5_a5a5))
 }
 
-/// What the first call answers for a peak in a run of three frames, and whether its list is as it was.
+/// The result of the first call for a peak in a run of three frames, and whether its list is unchanged.
 fn first_call(kind: u32, time: f32, room: usize) -> (u64, bool) {
     let (mut peak, ids, times, mut out) = ([0u32; 27], [5u32, 6, 7], [1.0f32, 2.0, time], [0xa5a5_a5a5u32; 3]);
     (peak[6], peak[7]) = (5, 7);

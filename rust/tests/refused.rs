@@ -1,4 +1,4 @@
-//! Grids that are refused, or that need no list: `detect` answers without making room for the peaks that their sizes would allow.
+//! Grids that are refused, or that need no list: `detect` returns without allocating for the maximum number of peaks of such a size.
 use rubzolena::{Grid, TofScale};
 
 const SCANS: [u32; 3] = [0, 1, 2];

@@ -1,4 +1,4 @@
-//! Retention through the crate's functions: noise, retention peaks of a trace, the fallback, windows and expansion, and what is refused.
+//! Retention through the functions of the crate: noise, retention peaks of a trace, the fallback, windows and expansion, and refused input.
 use rubzolena::*;
 
 const FREE: RtSearch = RtSearch { min_prom: ThresholdMode::Fixed(0.0), min_sep_sec: 0.0, min_width_sec: 0.0 };
@@ -68,7 +68,7 @@ fn windows() {
     assert_eq!((expand_window_into(&mobility_peak((103, 104)).0, ctx, params, &mut short), short), (Err(20), [7; 2]));
 }
 
-/// A run of frames with a point each, whose readings are a trace.
+/// A run of frames with one point each, whose readings are a trace.
 fn index(trace: &[f32]) -> FrameIndex {
     let mut index = FrameIndex::default();
     for v in trace {

@@ -1,16 +1,16 @@
-//! The stack that each C entry takes at most, as the table in include/rubzolena.h has it. Each case runs in a thread with so much stack and
-//! what the thread itself takes, on inputs that need the largest lists of their own: the widest rows, smoothed and not, with as many peaks
-//! as they can have; long lists to stitch, their identities in no order; long traces and long runs, with as many peaks.
+//! The stack that each C entry takes at most, by the table in include/rubzolena.h. Each case runs in a thread with that much stack and what the
+//! thread itself takes, on inputs that need the largest local lists: the widest rows, smoothed and not, with the maximum number of peaks;
+//! long lists to stitch, with identities in no order; long traces and long runs, with the maximum number of peaks.
 use rubzolena::*;
 
-/// A line of the header's table: the function, its KiB, and a call that takes most of them.
+/// A line of the header's table: the function, its KiB, and a call that takes most of it.
 struct Case {
     function: &'static str,
     kib: usize,
     call: fn(),
 }
 
-/// The KiB that a thread, its first functions and those of the Rust crate take besides, and what is lost to whole pages.
+/// The KiB that a thread, its first functions and those of the Rust crate take besides, and what is lost by rounding to pages.
 const BESIDES: usize = 16;
 
 /// By rising stack: a new thread may be given the stack of an earlier one that has ended, where that is larger than what it asked for.

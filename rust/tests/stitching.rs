@@ -1,4 +1,4 @@
-//! Stitching through the crate's functions: peaks that are merged or not, the owners, and lists that are refused.
+//! Stitching through the functions of the crate: peaks that are merged or not, the owners, and refused lists.
 use rubzolena::{stitch, stitch_into, Peak, Scratch, StitchParams, WORDS};
 
 /// A peak of one scan and one frame, area 1.
@@ -57,7 +57,7 @@ fn numbers() {
     assert_eq!(number(&[changed(two[0], 14, 9)], PARAMS), Some(9));
 }
 
-/// The answer with buffers of those lengths, and whether they are as they were.
+/// The result with buffers of those lengths, and whether they are unchanged.
 fn with_rooms(list: &[u32], rooms: [usize; 6]) -> (Result<usize, u32>, bool) {
     let mut buffers = rooms.map(|n| vec![7u32; n]);
     let [out, owners, order, groups, keys, merged] = &mut buffers;
