@@ -221,17 +221,50 @@ pub fn spoil(r: &mut Rng, l: &mut Lists, g: &mut Grid<'static>, room: &mut usize
 /// A grid with its lists, and the words and the scratch that are lent.
 pub type Lent = (Lists, Grid<'static>, usize, usize);
 
+/// A grid of two rows and five columns, changed, with the words and the scratch that it asks for.
+fn grid_with(change: &dyn Fn(&mut Lists, &mut Grid<'static>)) -> Lent {
+    let scale = rubzolena::TofScale { tof_min: 8, tof_max: 9, tof_step: 1, num_bins: 2 };
+    let mut g = Grid { rows: 2, cols: 5, scale, ..Grid::default() };
+    let data = vec![0.0, 4.0, 0.0, 8.0, 0.0, 0.0, 5.0, 5.0, 0.0, 0.0];
+    let mut l = Lists { data, raw: Vec::new(), scans: (0..5).collect(), mobility: vec![1.0; 5], weights: Vec::new(), smoothing: None };
+    change(&mut l, &mut g);
+    let room = g.rows * most(g.cols) * WORDS;
+    (l, g, room, g.cols)
+}
+
+/// Grids that differ in their scratch alone, without weights and with them: one row is enough. For the stored answers: the C entry is lent no
+/// scratch.
+pub fn scratch_edges() -> Vec<(&'static str, Lent)> {
+    let without = |space: usize| {
+        let (l, g, room, _) = grid_with(&|_, _| {});
+        (l, g, room, space)
+    };
+    let smoothed = |space: usize| {
+        let (l, g, room, _) = grid_with(&|l, _| {
+            l.raw = std::mem::replace(&mut l.data, vec![0.0, 8.0, 0.0, 8.0, 0.0, 0.0, 8.0, 0.0, 8.0, 0.0]);
+            (l.smoothing, l.weights) = (Some((1.0, 2.0)), gaussian(1.0, 2.0));
+        });
+        (l, g, room, space)
+    };
+    vec![
+        ("scratch of one row", without(5)),
+        ("one place more", without(6)),
+        ("scratch of all rows", without(10)),
+        ("scratch of more rows than there are", without(15)),
+        ("one place too few", without(4)),
+        ("no scratch", without(0)),
+        ("smoothed, scratch of one row", smoothed(5)),
+        ("smoothed, one place more", smoothed(6)),
+        ("smoothed, scratch of all rows", smoothed(10)),
+        ("smoothed, scratch of more rows than there are", smoothed(15)),
+        ("smoothed, one place too few", smoothed(4)),
+        ("smoothed, no scratch", smoothed(0)),
+    ]
+}
+
 /// Grids on both sides of a rule, or at a limit and one past it.
 pub fn edges() -> Vec<(&'static str, Lent)> {
-    let grid = |change: &dyn Fn(&mut Lists, &mut Grid<'static>)| {
-        let scale = rubzolena::TofScale { tof_min: 8, tof_max: 9, tof_step: 1, num_bins: 2 };
-        let mut g = Grid { rows: 2, cols: 5, scale, ..Grid::default() };
-        let data = vec![0.0, 4.0, 0.0, 8.0, 0.0, 0.0, 5.0, 5.0, 0.0, 0.0];
-        let mut l = Lists { data, raw: Vec::new(), scans: (0..5).collect(), mobility: vec![1.0; 5], weights: Vec::new(), smoothing: None };
-        change(&mut l, &mut g);
-        let room = g.rows * most(g.cols) * WORDS;
-        (l, g, room, g.cols)
-    };
+    let grid = grid_with;
     let lent = |room: usize, space: usize| {
         let (l, g, ..) = grid(&|_, _| {});
         (l, g, room, space)

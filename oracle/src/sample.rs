@@ -41,8 +41,37 @@ fn absent(lines: u32) {
     }
 }
 
+/// Printed grids of three columns or more by the scratch that they lend, without weights and with them. Of the accepted ones those that have a
+/// peak, of the refused ones those with 21.
+#[derive(Default)]
+struct Scratches([[u32; 5]; 2]);
+
+impl Scratches {
+    fn count(&mut self, g: &Grid, space: usize, number: u32, peaks: usize) {
+        let kind = match space {
+            0 => 0,
+            _ if space + 1 == g.cols => 1,
+            _ if space == g.cols => 2,
+            _ if space == g.cols + 1 => 3,
+            _ if space >= 2 * g.cols => 4,
+            _ => return,
+        };
+        if g.cols > 2 && (number == 21 || (number == 0 && peaks > 0)) {
+            self.0[usize::from(!g.weights.is_empty())][kind] += 1;
+        }
+    }
+
+    /// Each kind must be there: stored answers without one would not notice what is asked of the scratch.
+    fn said(&self) {
+        let [without, with] = self.0;
+        eprintln!("oracle: grids by scratch (none, one place too few, one row, one place more, two rows or more): {without:?}, with weights {with:?}");
+        assert!(self.0.iter().flatten().all(|n| *n > 0), "a kind of scratch is not printed");
+    }
+}
+
 /// Prints the corners, and seeded inputs of every kind that many times over.
 pub fn print(seed: u64, times: u32) {
+    let mut scratches = Scratches::default();
     println!("{HEAD}");
     println!("# Minus zero on a symmetric apex, plus zero where it bends less than 1e-12, and where the bend rounds to 0.");
     for y in [[4.0, 8.0, 4.0], [0.0, 1e-45, 0.0], [0.0, 1e-13, 0.0], [16777215.0, 16777216.0, 16777216.0]] {
@@ -145,7 +174,7 @@ pub fn print(seed: u64, times: u32) {
             grid_level::spoil(&mut r, &mut lists, &mut plain, &mut room);
         }
         if lists.weights.len() <= 64 {
-            grid_line(&lists, plain, room / records::WORDS, space);
+            grid_line(&lists, plain, room / records::WORDS, space, &mut scratches);
         }
     }
     println!("# 255 and 257 weights, the most that are accepted, on rows shorter and longer than they reach; 259 are refused.");
@@ -157,14 +186,17 @@ pub fn print(seed: u64, times: u32) {
         for _ in 0..6 * times {
             let (mut lists, plain) = grid_level::sample(&mut r);
             (lists.weights, lists.smoothing) = (weights.clone(), Some((sigma, truncate)));
-            grid_line(&lists, plain, plain.rows * row_level::most(plain.cols), plain.cols);
+            grid_line(&lists, plain, plain.rows * row_level::most(plain.cols), plain.cols, &mut scratches);
         }
     }
-    edges();
+    edges(&mut scratches);
+    if !cfg!(turned) {
+        scratches.said();
+    }
 }
 
 /// Prints what stands on both sides of a rule, or at a limit and one past it (turned.list).
-fn edges() {
+fn edges(scratches: &mut Scratches) {
     println!("# At a limit and one past it: bends, areas, records.");
     for y in leaves::bends() {
         quad(y[0], y[1], y[2]);
@@ -190,14 +222,14 @@ fn edges() {
     for (scale, asked) in tof_level::edges() {
         scale_line(&scale, asked);
     }
-    for (what, (lists, plain, room, space)) in grid_level::edges() {
+    for (what, (lists, plain, room, space)) in grid_level::edges().into_iter().chain(grid_level::scratch_edges()) {
         println!("# A grid: {what}.");
-        grid_line(&lists, plain, room / records::WORDS, space);
+        grid_line(&lists, plain, room / records::WORDS, space, scratches);
     }
 }
 
 /// A grid's line, if it is not too long.
-fn grid_line(l: &grid_level::Lists, plain: Grid<'static>, places: usize, space: usize) {
+fn grid_line(l: &grid_level::Lists, plain: Grid<'static>, places: usize, space: usize, scratches: &mut Scratches) {
     let g = grid_level::grid(l, plain);
     let (Ok(rows), Ok(cols)) = (u32::try_from(g.rows), u32::try_from(g.cols)) else { return };
     let longest = [l.scans.len(), l.mobility.len(), space, places].into_iter().max();
@@ -215,6 +247,7 @@ fn grid_line(l: &grid_level::Lists, plain: Grid<'static>, places: usize, space: 
     w.extend(words(&l.mobility).into_iter().chain(words(&l.weights)));
     let number = grid_level::number(&g, places * records::WORDS, space);
     let list = if number == 0 { grid_level::rust(&g, l.smoothing) } else { Vec::new() };
+    scratches.count(&g, space, number, list.len());
     w.extend([number, (list.len() / records::WORDS) as u32]);
     w.extend(list);
     line(48, &w);

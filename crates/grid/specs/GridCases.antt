@@ -48,6 +48,15 @@ no-scratch : grid_number (grid 0 1 [] (0 ∷ 5 ∷ 0 ∷ []) (7 ∷ 8 ∷ 9 ∷ 
 unfolding grid_number first_of all_in_range in_range sound_params sound_bounds sound_step sound_ends agreeing all_up_to rising rising_from of_int of_bits to_bits
 no-scratch = refl
 
+-- the same with weights; and one of exactly a row is enough
+no-scratch-weighed : grid_number (grid 0 1 [] (0 ∷ 5 ∷ 0 ∷ []) (7 ∷ 8 ∷ 9 ∷ []) (𝟏 ∷ []) 0) 1 size 2 ≡ 21
+unfolding grid_number first_of all_in_range in_range sound_params sound_bounds sound_step sound_ends agreeing all_up_to rising rising_from sound_weights of_int of_bits to_bits
+no-scratch-weighed = refl
+
+one-row : grid_number (grid 0 1 [] (0 ∷ 5 ∷ 0 ∷ []) (7 ∷ 8 ∷ 9 ∷ []) (𝟏 ∷ []) 0) 1 size 3 ≡ 0
+unfolding grid_number first_of all_in_range in_range sound_params sound_bounds sound_step sound_ends agreeing all_up_to rising rising_from sound_weights of_int of_bits to_bits
+one-row = refl
+
 no_room : grid_number (grid 0 1 [] (0 ∷ 5 ∷ 0 ∷ []) (7 ∷ 8 ∷ 9 ∷ []) [] 0) 1 (size - 1) 2 ≡ 20
 unfolding grid_number first_of all_in_range in_range sound_params sound_bounds sound_step sound_ends agreeing all_up_to rising rising_from of_int of_bits to_bits
 no_room = refl

@@ -2,4 +2,5 @@
 pub mod GridNumber
 pub mod GridNumberLaws
 pub mod Answer
+pub mod OneRow
 pub mod GridCases
