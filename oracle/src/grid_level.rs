@@ -235,17 +235,17 @@ fn grid_with(change: &dyn Fn(&mut Lists, &mut Grid<'static>)) -> Lent {
 /// Grids that differ in their scratch alone, without weights and with them: one row is enough. For the stored answers: the C entry is lent no
 /// scratch.
 pub fn scratch_edges() -> Vec<(&'static str, Lent)> {
-    let without = |space: usize| {
-        let (l, g, room, _) = grid_with(&|_, _| {});
-        (l, g, room, space)
-    };
-    let smoothed = |space: usize| {
+    let lent = |is_smoothed: bool, space: usize| {
         let (l, g, room, _) = grid_with(&|l, _| {
-            l.raw = std::mem::replace(&mut l.data, vec![0.0, 8.0, 0.0, 8.0, 0.0, 0.0, 8.0, 0.0, 8.0, 0.0]);
-            (l.smoothing, l.weights) = (Some((1.0, 2.0)), gaussian(1.0, 2.0));
+            if is_smoothed {
+                l.raw = std::mem::replace(&mut l.data, vec![0.0, 8.0, 0.0, 8.0, 0.0, 0.0, 8.0, 0.0, 8.0, 0.0]);
+                (l.smoothing, l.weights) = (Some((1.0, 2.0)), gaussian(1.0, 2.0));
+            }
         });
         (l, g, room, space)
     };
+    let without = |space| lent(false, space);
+    let smoothed = |space| lent(true, space);
     vec![
         ("scratch of one row", without(5)),
         ("one place more", without(6)),
