@@ -9,7 +9,7 @@ use test_hex_lines::parts::{Line, float, word};
 pub(crate) fn noise_agrees(line: &mut Line<'_>) -> Option<bool> {
     let head = line.take_words(2)?;
     let signal = line.next_floats(head, 1)?;
-    let stored = Stored::next(line, 1)?;
+    let stored = Stored::number_and_count(line)?;
     Some(stored.is(c_rt::trace::rubzolena_robust_noise_mad(signal)))
 }
 
@@ -18,7 +18,7 @@ pub(crate) fn search_agrees(line: &mut Line<'_>) -> Option<bool> {
     let smoothed = line.next_floats(head, 1)?;
     let raw = line.next_floats(head, 2)?;
     let times = line.next_floats(head, 3)?;
-    let stored = Stored::next(line, 1)?;
+    let stored = Stored::number_and_count(line)?;
     let mut out = [BEFORE; ROOM];
     let mut scratch = [BEFORE; ROOM];
     let r = c_rt::search::rubzolena_find_rt_peaks(
@@ -42,7 +42,7 @@ pub(crate) fn fallback_agrees(line: &mut Line<'_>) -> Option<bool> {
     let ids = line.next_words(head, 2)?;
     let times = line.next_floats(head, 3)?;
     let record = line.next_words(head, 4)?;
-    let stored = Stored::next(line, 1)?;
+    let stored = Stored::number_and_count(line)?;
     let mut out = [BEFORE; ROOM];
     let r = c_rt::single::rubzolena_fallback_rt_peak(
         trace,

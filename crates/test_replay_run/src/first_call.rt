@@ -8,7 +8,7 @@ pub(crate) fn agrees(line: &mut Line<'_>) -> Option<bool> {
     let record = line.next_words(head, 1)?;
     let ids = line.next_words(head, 2)?;
     let times = line.next_floats(head, 3)?;
-    let stored = Stored::next(line, 1)?;
+    let stored = Stored::number_and_count(line)?;
     let mut out = [BEFORE; ROOM];
     let r = c_rt::window::rubzolena_expand_window(
         record,

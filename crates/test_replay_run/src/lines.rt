@@ -45,6 +45,14 @@ impl<'a> Stored<'a> {
         })
     }
 
+    // The number, and one count, which is 0 where the line ends before it.
+    pub(crate) fn number_and_count(line: &mut Line<'a>) -> Option<Self> {
+        let n = line.rest().len().min(2).max(1);
+        Some(Stored {
+            words: line.take_words(n)?,
+        })
+    }
+
     pub(crate) fn count(self, i: usize) -> usize
         requires { i ≤ 3 }
         ensures { result < 0x1_0000_0000 }
