@@ -17,13 +17,13 @@ use Rattle.row_params.specs.declared.ImDetectParams.{ImDetectParams}
 use mathlib.Core.Path.{◌≡◌, refl, sym, ◌∙◌, ap, subst}
 use mathlib.Core.Bool.{Bool, true, false, cond, ◌&&◌, ◌||◌}
 use mathlib.Core.List.{List, [], ◌∷◌, ◌++◌, map}
-use Prim.Native.Nat.{ℕ, zero, suc, ◌≤◌, ◌<◌, ◌+◌, ◌-◌, ◌*◌, ◌^◌}
+use Prim.Native.Nat.{ℕ, zero, suc, min, ◌≤◌, ◌<◌, ◌+◌, ◌-◌, ◌*◌, ◌^◌}
 use native.Mathlib.Nat.{add-zero, pow-suc, pow-le-pow_right}
 use native.Mathlib.Numerals.{add-one, sub-one}
 use native.Mathlib.Omega.{arith}
-use borrow.Author.Tests.{ltb-false, leb-true, le-leb, lt-leb}
+use borrow.Author.Tests.{ltb-true, ltb-false, leb-true, le-leb, lt-leb}
 use lib.Dec.{leb, ltb, eqb}
-use lib.ListN.{length, get_or, take, drop, set, length-map, drop_of_length-le}
+use lib.ListN.{length, get_or, take, drop, set, length-drop, length-map, drop_of_length-le}
 use lib.Seq.{drop-cons, take-suc, length-take-le, take_all, drop-drop, drop-append-add}
 use lib.Ieee.{Float}
 use Rattle.limits.specs.Limits.{last_row}
@@ -88,6 +88,14 @@ numbers-bad m (f ∷ fs) zero d h e = rw e
 numbers-bad m (f ∷ fs) (suc n) d h e = rw (numbers-bad m fs n d (omega arith) e) (and-false (is_number m f))
 
 -- ---- lists
+-- the element at which a list goes on
+pub next-part : {A : Type 0} (l : List A) (n : ℕ) (x : A) (xs : List A) → drop n l ≡ x ∷ xs → (n < length l) × (x ≡ get_or l n x) × (drop (n + 1) l ≡ xs)
+next-part l n x xs e =
+    let k : length l - n ≡ suc (length xs) = sym (length-drop n l) ∙ ap length e in
+    let h : n < length l = omega arith in
+    let t : get_or l n x ∷ drop (suc n) l ≡ x ∷ xs = sym (drop-cons l n x h) ∙ e in
+    (h, cc, rw add-one (cc))
+
 -- what the number of a field says
 pub no-number : (m : ℕ) (f : List ℕ) → None ≡ number_text m f → is_number m f ≡ false
 no-number m f e = go (is_number m f) e
@@ -190,6 +198,10 @@ lf-place k l =
     ap (λ (z : ℕ). lf_from z l) (sym (add-zero k)) ∙ from_place k 0 l
     ∙ ap (option_map (λ i. k + i)) (sym (position_from-zero (λ b. eqb b lf) l))
 
+-- the answer of a search from the place j on, which is the place that is asked for
+pub lf-behind : (l : List ℕ) (from j : ℕ) (o : Option ℕ) → j ≡ from → o ≡ position (λ b. eqb b lf) (drop j l) → option_map (λ i. j + i) o ≡ lf_from from (drop from l)
+lf-behind l from j o e h = ap (option_map (λ i. j + i)) h ∙ sym (lf-place j (drop j l)) ∙ ap (λ (z : ℕ). lf_from z (drop z l)) e
+
 pub lf-none : (l : List ℕ) (i : ℕ) → length l ≤ i → lf_from i (drop i l) ≡ None
 unfolding lf_from
 lf-none l i h = rw (drop_of_length-le l h)
@@ -202,9 +214,9 @@ pub number-start : (limit : ℕ) (f : List ℕ) → 1 ≤ length f → length f 
 unfolding is_number
 number-start limit f h k = (rw (le-leb 1 (length f) h, le-leb (length f) 8 k), refl)
 
-pub number-none : (limit : ℕ) (f : List ℕ) → length f ≡ 0 → is_number limit f ≡ false
+pub number-none : (limit : ℕ) (f : List ℕ) → (leb 1 (length f) && leb (length f) 8) ≡ false → is_number limit f ≡ false
 unfolding is_number
-number-none limit f h = rw (lt-leb 1 (length f) (omega arith))
+number-none limit f h = rw h
 
 pub number-long : (limit : ℕ) (f : List ℕ) → 8 < length f → is_number limit f ≡ false
 unfolding is_number
@@ -258,6 +270,92 @@ pub whole_field : (l : List ℕ) → None ≡ position (λ b. eqb b comma) l →
 whole_field l e =
     let h : comma_at l ≡ length l = sym (comma_or_length l) ∙ ap (λ (o : Option ℕ). unwrap_or o (length l)) (sym e) in
     split-none l (omega arith)
+
+-- a field that is looked for in the first k bytes of a line, 9 at least or all that there are: e is where it ends
+comma-least : (l : List ℕ) (k : ℕ) → comma_at (take k l) ≤ comma_at l
+unfolding comma_at
+comma-least l zero = omega arith
+comma-least [] (suc k) = omega arith
+comma-least (b ∷ bs) (suc k) = go (eqb b comma) (comma-least bs k)
+  where
+    go : (t : Bool) → comma_at (take k bs) ≤ comma_at bs → cond t 0 (suc (comma_at (take k bs))) ≤ cond t 0 (suc (comma_at bs))
+    go true h = omega arith
+    go false h = omega arith
+
+comma-front : (l : List ℕ) (k : ℕ) → comma_at (take k l) < k → comma_at (take k l) ≡ comma_at l
+unfolding comma_at
+comma-front l zero h = absurd (omega arith)
+comma-front [] (suc k) h = refl
+comma-front (b ∷ bs) (suc k) h = go (eqb b comma) h (comma-front bs k)
+  where
+    go : (t : Bool) → cond t 0 (suc (comma_at (take k bs))) < suc k → (comma_at (take k bs) < k → comma_at (take k bs) ≡ comma_at bs)
+        → cond t 0 (suc (comma_at (take k bs))) ≡ cond t 0 (suc (comma_at bs))
+    go true h r = refl
+    go false h r = ap suc (r (omega arith))
+
+comma_most : (l : List ℕ) → comma_at l ≤ length l
+unfolding comma_at
+comma_most [] = omega arith
+comma_most (b ∷ bs) = go (eqb b comma) (comma_most bs)
+  where
+    go : (t : Bool) → comma_at bs ≤ length bs → cond t 0 (suc (comma_at bs)) ≤ suc (length bs)
+    go true h = omega arith
+    go false h = omega arith
+
+module _ (l : List ℕ) (k e : ℕ) (w : min (length l) 9 ≤ k) (h : e ≡ comma_at (take k l)) where
+  pub end-most : e ≤ length l
+  end-most = let a = comma-least l k in let b = comma_most l in omega arith
+
+  end-short : e ≤ 8 → e ≡ comma_at l
+  end-short s = go (ltb e k) refl
+    where
+      go : (t : Bool) → ltb e k ≡ t → e ≡ comma_at l
+      go true t = let a : e < k = ltb-true e k t in h ∙ comma-front l k (omega arith)
+      go false t = let a : k ≤ e = ltb-false e k t in h ∙ ap comma_at (take_all k l (omega arith))
+
+  -- it is a number where the first field of the line is one
+  pub end-number : (m : ℕ) → is_number m (take e l) ≡ is_number m (take (comma_at l) l)
+  end-number m = go (ltb 8 e) refl
+    where
+      go : (t : Bool) → ltb 8 e ≡ t → is_number m (take e l) ≡ is_number m (take (comma_at l) l)
+      go true t =
+          let a : 8 < e = ltb-true 8 e t in
+          let b : e ≤ comma_at l = (let x = comma-least l k in omega arith) in
+          let c = comma_most l in
+          let x : 8 < length (take e l) = rw (length-take-le e l (omega arith)) a in
+          let y : 8 < length (take (comma_at l) l) = rw (length-take-le (comma_at l) l c) (omega arith) in
+          number-long m (take e l) x ∙ sym (number-long m (take (comma_at l) l) y)
+      go false t = let a : e ≤ 8 = ltb-false 8 e t in ap (λ (z : ℕ). is_number m (take z l)) (end-short a)
+
+  -- and then it is that field
+  pub end-comma : (m : ℕ) → is_number m (take e l) ≡ true → e ≡ comma_at l
+  unfolding is_number
+  end-comma m t =
+      let a : length (take e l) ≤ 8 = leb-true (length (take e l)) 8 (both (leb 1 (length (take e l))) (both (leb 1 (length (take e l)) && leb (length (take e l)) 8) (both (leb 1 (length (take e l)) && leb (length (take e l)) 8 && all_digits (take e l)) t).0).0).1 in
+      let b = length-take-le e l end-most in
+      end-short (omega arith)
+
+first-field : (l : List ℕ) → fields l ≡ take (comma_at l) l ∷ drop 1 (fields l)
+first-field l = go (ltb (comma_at l) (length l)) refl
+  where
+    go : (t : Bool) → ltb (comma_at l) (length l) ≡ t → fields l ≡ take (comma_at l) l ∷ drop 1 (fields l)
+    go true t = rw (split-comma l (ltb-true (comma_at l) (length l) t)) refl
+    go false t = let a : length l ≤ comma_at l = ltb-false (comma_at l) (length l) t in rw (split-none l a, take_all (comma_at l) l a) refl
+
+-- what is left of a line behind its first n fields, and the next of them
+module _ (line : List ℕ) (n : ℕ) (r : List ℕ) (p : drop n (fields line) ≡ fields r) where
+  pub here : (n < length (fields line)) × (take (comma_at r) r ≡ get_or (fields line) n (take (comma_at r) r)) × (drop (n + 1) (fields line) ≡ drop 1 (fields r))
+  here = next-part (fields line) n (take (comma_at r) r) (drop 1 (fields r)) (p ∙ first-field r)
+
+  pub here-last : length r ≤ comma_at r → n + 1 ≡ length (fields line)
+  here-last h =
+      let a : drop (n + 1) (fields line) ≡ [] = here.2 ∙ rw (split-none r h) refl in
+      let b : length (fields line) - (n + 1) ≡ 0 = sym (length-drop (n + 1) (fields line)) ∙ ap length a in
+      let c = here.0 in
+      omega arith
+
+  pub here-more : comma_at r < length r → drop (n + 1) (fields line) ≡ fields (drop (comma_at r + 1) r)
+  here-more h = here.2 ∙ rw (split-comma r h, add-one) refl
 
 -- a line that is cut three times
 pub four-fields : {A : Type 0} (l a b r w : List ℕ) (o : Option A) (f g : A → List ℕ) → fields l ≡ a ∷ fields r → fields r ≡ b ∷ fields w

@@ -22,15 +22,19 @@ pub fn parse_row(line: &[u8], row: &mut [f32]) -> Option<usize>
     ensures rest { drop max_fields row.new ≡ drop max_fields row.old }
 {
     // The count is the answer and the place of the next reading: a `try_fold` over the fields would have to write the lent row as well.
-    let mut count = 0usize;
-    for field in line.split(|b| *b == b',') {
-        if count == super::MAX_FIELDS {
-            return None;
-        }
+    let mut from = 0usize;
+    for count in 0..super::MAX_FIELDS {
+        let rest = &line[from..];
+        // The longest number decides how far a comma is looked for: a field that is longer is no number, however long it is.
+        let end = super::comma_at(&rest[..rest.len().min(super::MAX_DIGITS + 1)]);
+        let field = &rest[..end];
         row[count] = numeric::of_u32(super::number(field, super::MAX_NUMBER)?);
-        count += 1;
+        if end == rest.len() {
+            return Some(count + 1);
+        }
+        from += end + 1;
     }
-    Some(count)
+    None
 }
 
 // The verdict on the next line, given without its CR LF. The readings of an accepted row stand at the front of `row`; after

@@ -3,7 +3,7 @@
 
 pub mod inner;
 
-ghost use Rattle.std.specs.Prelude.{◌≡◌, ◌==◌, [], ◌∷◌, MatchOption, ◌≤◌, ◌<◌, ◌+◌, ◌-◌, ◌*◌};
+ghost use Rattle.std.specs.Prelude.{◌≡◌, ◌==◌, [], ◌∷◌, MatchOption, ◌&&◌, ◌≤◌, ◌<◌, ◌+◌, ◌-◌, ◌*◌, leb, length};
 ghost use Rattle.std.specs.List.{position};
 ghost use Rattle.table_text.specs.Text.{comma_at, fields, number_text, params_of, next_line};
 ghost use Rattle.table_text.specs.Table.{ends_in_cr, opened, is_next, counted};
@@ -17,6 +17,9 @@ pub const MAX_NUMBER: u32 = 16777215;
 
 // The most fields that a row may have.
 pub const MAX_FIELDS: usize = 4096;
+
+// The most digits of a number that is read.
+const MAX_DIGITS: usize = 8;
 
 // The bytes of the longest row, with its CR: as many fields of 8 digits, each with one byte behind it.
 pub const MAX_LINE: usize = MAX_FIELDS * (8 + 1);
@@ -81,12 +84,19 @@ pub fn comma_at(line: &[u8]) -> usize
     place_of(b',', line).unwrap_or(line.len())
 }
 
+// Whether a field has as many bytes as a number that is read.
+fn has_number_length(field: &[u8]) -> bool
+    ensures { result ≡ (leb 1 (length field.now) && leb (length field.now) 8) }
+{
+    (0 < field.len()) & (field.len() <= MAX_DIGITS)
+}
+
 // The number of a field of 1 to 8 digits, to a limit. A loop: by `try_fold` the proof does not close, for the library has no lemma from
 // its run to the bytes of a slice, and the closure would have to be told that its value is still below 10,000,000.
 pub fn number(field: &[u8], limit: u32) -> Option<u32>
     ensures { result ≡ number_text limit field.now }
 {
-    if field.is_empty() || field.len() > 8 {
+    if !has_number_length(field) {
         return None;
     }
     let mut value = 0u32;

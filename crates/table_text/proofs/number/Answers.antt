@@ -1,23 +1,17 @@
-use borrow.Author.Tests.{eqb-true, eqb-false, leb-true}
+use borrow.Author.Tests.{leb-true}
 use Rattle.refusal.proofs.Bools.{both}
-use Rattle.table_text.proofs.Laws.{nonzero, digits-bound, number-start, number-none, number-long, number-next, number-bad, number-end, digits_more, some-if}
+use Rattle.table_text.proofs.Laws.{digits-bound, number-start, number-none, number-next, number-bad, number-end, digits_more, some-if}
 use Rattle.std.proofs.Common.{sym, ◌∙◌, ◌≤◌, leb, length, get_or, arith, lit<}
 use Rattle.table_text.proofs.number.Goals as goal
-use Rattle.table_text.proofs.number.Goals.{then-is_empty-via-then-is_empty, then-is_empty-via-else-is_empty+then-field-gt8}
 
-pub returns-then-is_empty : goal.returns-then-is_empty
-returns-then-is_empty c =
-    let f = c.args.field.now in
-    elim c.then-is_empty.branch [
-      | then-is_empty-via-then-is_empty w ↦ rw (number-none c.args.limit f (eqb-true _ _ (sym c.is_empty.ensures ∙ w.if-is_empty.true)))
-      | then-is_empty-via-else-is_empty+then-field-gt8 w ↦ rw (number-long c.args.limit f w.if-field-gt8.true)
-    ]
+pub returns-then-not-has_number_length : goal.returns-then-not-has_number_length
+returns-then-not-has_number_length c = rw (number-none c.args.limit c.args.field.now (sym c.has_number_length.ensures ∙ c.if-not-has_number_length.true))
 
 pub loop-b-init : goal.loop-b-init
 loop-b-init c =
-    let n = c.args.field.now in
-    let some : 1 ≤ length n = nonzero (length n) (eqb-false _ _ (sym c.is_empty.ensures ∙ c.if-is_empty.false)) in
-    (lit< tt, number-start c.args.limit n some (omega arith))
+    let n = length c.args.field.now in
+    let t = both (leb 1 n) (sym c.has_number_length.ensures ∙ c.if-not-has_number_length.false) in
+    (lit< tt, number-start c.args.limit c.args.field.now (leb-true 1 n t.0) (leb-true n 8 t.1))
 
 pub returns-then-not-is_ascii_digit : goal.returns-then-not-is_ascii_digit
 returns-then-not-is_ascii_digit c =
@@ -27,7 +21,9 @@ returns-then-not-is_ascii_digit c =
 pub with_digit-value-requires : goal.with_digit-value-requires
 with_digit-value-requires c =
     let o = c.loop-b in
+    let n = length c.args.field.now in
     let b = get_or c.args.field.now o.b-index 0 in
+    let most : n ≤ 8 = leb-true n 8 (both (leb 1 n) (sym c.has_number_length.ensures ∙ c.if-not-has_number_length.false)).1 in
     let e = sym c.is_ascii_digit.ensures.value ∙ c.if-not-is_ascii_digit.false in
     (digits-bound o.value o.b-index 7 o.invariant.0 (omega arith), leb-true 48 b (both (leb 48 b) e).0)
 
