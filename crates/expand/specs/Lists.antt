@@ -11,3 +11,8 @@ abbrev pub SameLists : LentLists → LentLists → Type 0
 SameLists was is =
     (is.out.ghost_name ≡ was.out.ghost_name) × (is.raw.ghost_name ≡ was.raw.ghost_name) × (is.smooth.ghost_name ≡ was.smooth.ghost_name) × (is.order.ghost_name ≡ was.order.ghost_name)
     × (length is.out.now ≡ length was.out.now)
+
+-- and each is as long as before
+abbrev pub SameLengths : LentLists → LentLists → Type 0
+SameLengths was is =
+    (length is.out.now ≡ length was.out.now) × (length is.raw.now ≡ length was.raw.now) × (length is.smooth.now ≡ length was.smooth.now) × (length is.order.now ≡ length was.order.now)

@@ -4,7 +4,7 @@ ghost use Rattle.limits.specs.Limits.{max_frames};
 ghost use Rattle.expand_many.specs.Calls.{many_in};
 ghost use Rattle.expand_many.specs.Steps.{Ready, Done};
 ghost use Rattle.expand.specs.ExpandCall.{PastKept};
-ghost use Rattle.expand.specs.Lists.{lent_in, SameLists};
+ghost use Rattle.expand.specs.Lists.{lent_in, SameLists, SameLengths};
 ghost use Rattle.expand.specs.Steps.{Lendable};
 
 use super::lent::Lent;
@@ -23,6 +23,7 @@ pub fn expand_lent(
     ensures done { Done (many_in run.now peaks.now) (length peaks.now.lengths.now) lent.old.out.now counts.old result lent.new.out.now counts.new }
     ensures past { PastKept (length run.now.ids.now) (lent_in lent.old) (lent_in lent.new) }
     ensures same { SameLists lent.old lent.new }
+    ensures lengths { SameLengths lent.old lent.new }
 {
     let f = run.ids.len();
     super::sized::expand_sized(

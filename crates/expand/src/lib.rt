@@ -9,7 +9,7 @@ mod sized;
 ghost use Rattle.std.specs.Prelude.{◌≡◌};
 ghost use Rattle.expand_one.specs.Runs.{run_lent};
 ghost use Rattle.expand_many.specs.Calls.{many_lent};
-ghost use Rattle.expand.specs.Lists.{lent_in, SameLists};
+ghost use Rattle.expand.specs.Lists.{lent_in, SameLists, SameLengths};
 ghost use Rattle.expand.specs.ExpandCall.{ManyAnswered, OneAnswered};
 
 use expand_many::peaks::PeakList;
@@ -30,6 +30,7 @@ pub fn expand_many_im_peaks_along_rt(
 ) -> Result<usize, Refusal>
     ensures answer { ManyAnswered (many_lent run.now e peaks.entry) (lent_in lent.old) (lent_in lent.new) counts.old counts.new result }
     ensures same { SameLists lent.old lent.new }
+    ensures lengths { SameLengths lent.old lent.new }
 {
     let index = numbers::check(run, e, &peaks, lent, counts.len())?;
     let followed = FollowedRun {
@@ -54,6 +55,7 @@ pub fn expand_im_peak_along_rt(
 ) -> Result<usize, Refusal>
     ensures answer { OneAnswered (run_lent run.now) e peak.now weights.now first (lent_in lent.old) (lent_in lent.new) result }
     ensures same { SameLists lent.old lent.new }
+    ensures lengths { SameLengths lent.old lent.new }
 {
     let k = weights.len().min(258);
     let lengths = [k as u32];

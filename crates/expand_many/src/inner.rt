@@ -56,7 +56,8 @@ pub fn expand_peaks(
 ) -> usize
     requires { Ready (many_in run.now peaks.now) (length peaks.now.lengths.now) (length out.old) (length counts.old)
         × (length run.now.ids.now ≤ scratch.old.trace.search.samples) }
-    ensures { Done (many_in run.now peaks.now) (length peaks.now.lengths.now) out.old counts.old result out.new counts.new }
+    ensures done { Done (many_in run.now peaks.now) (length peaks.now.lengths.now) out.old counts.old result out.new counts.new }
+    ensures samples { scratch.new.trace.search.samples ≡ scratch.old.trace.search.samples }
 {
     let mut total = 0usize;
     let mut at = 0usize;

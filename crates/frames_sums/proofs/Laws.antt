@@ -62,6 +62,18 @@ module _ (ix : Index) (w : Window) where
       let k : a + 1 + n ≡ a + suc n = omega arith in
       rw (e, sym k) (points-more n m (a + 1) (cond (in_scans w (get_or ix.scans a 0)) (so ⊕ at ix.readings a) so))
 
+  -- one point more behind those from the first on
+  points-last : (n : ℕ) (so : Float) → add_points ix w (n + 1) 0 so
+      ≡ cond (in_scans w (get_or ix.scans n 0)) (add_points ix w n 0 so ⊕ at ix.readings n) (add_points ix w n 0 so)
+  unfolding add_points
+  points-last n so = let e : 0 + n ≡ n = omega arith in rw e at (points-more n 1 0 so)
+
+  pub points-in : (n : ℕ) (so sum : Float) → sum ≡ add_points ix w n 0 so → in_scans w (get_or ix.scans n 0) ≡ true → sum ⊕ at ix.readings n ≡ add_points ix w (n + 1) 0 so
+  points-in n so sum h t = rw (points-last n so, t, h) refl
+
+  pub points-out : (n : ℕ) (so sum : Float) → sum ≡ add_points ix w n 0 so → in_scans w (get_or ix.scans n 0) ≡ false → sum ≡ add_points ix w (n + 1) 0 so
+  points-out n so sum h t = rw (points-last n so, t) h
+
   -- points up to a place, and those from it on
   pub points-join : (a b d : ℕ) (so : Float) → a ≤ b → b ≤ d → add_points ix w (d - a) a so ≡ add_points ix w (d - b) b (add_points ix w (b - a) a so)
   points-join a b d so h k =

@@ -8,7 +8,7 @@ ghost use Rattle.limits.specs.Limits.{max_reading};
 ghost use Rattle.frames_view.specs.ViewNumber.{seen_in};
 ghost use Rattle.frames_view.specs.Answer.{frame_of, room_of, Answered};
 ghost use Rattle.frames_view.specs.Lists.{lent_in};
-ghost use Rattle.frames_bins.specs.Lists.{SameView, SameScratch};
+ghost use Rattle.frames_bins.specs.Lists.{SameView, SameScratch, SameViewLengths, SameScratchLengths};
 
 use frames_bins::inner::Counts;
 use frames_bins::lists::{Points, Scratch, View};
@@ -60,6 +60,8 @@ pub fn build_frame_bin_view(
     ensures answer { Answered (frame_of points.entry.tofs.now points.entry.scans.now points.entry.readings.now scale global_num_scans base) (lent_in view.old scratch.old) (lent_in view.new scratch.new) result }
     ensures same_view { SameView view.old view.new }
     ensures same_scratch { SameScratch scratch.old scratch.new }
+    ensures view_lengths { SameViewLengths view.old view.new }
+    ensures scratch_lengths { SameScratchLengths scratch.old scratch.new }
 {
     let room = room_of(view, scratch);
     numbers::check(see(points), global_num_scans, base, scale, room)?;

@@ -130,6 +130,8 @@ pub fn detect_rows<G: Source>(
     ensures done { Done G.Form.form (with_weights kernel.now.weights.now (G.grid grid.now)) rows.start rows.end out.old out.new result }
     ensures past { drop (G.grid grid.now).cols lent.new.y.now ≡ drop (G.grid grid.now).cols lent.old.y.now }
     ensures same { SameRowScratch lent.old lent.new }
+    ensures lengths { (length lent.new.z.now ≡ length lent.old.z.now) × (length lent.new.y.now ≡ length lent.old.y.now) }
+    ensures samples { lent.new.search.now.samples ≡ lent.old.search.now.samples }
 {
     let mut n = 0usize;
     for r in rows.start..rows.end {

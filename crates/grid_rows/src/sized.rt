@@ -32,7 +32,9 @@ fn detect_in<const N: usize, const B: usize>(
         y,
         search: &mut scratch,
     };
-    super::rows::detect_rows(call, kernel, rows, out, &mut lent)
+    // A copy, as in grid_bytes::weighed: its fields stay in registers over the rows.
+    let own = *call;
+    super::rows::detect_rows(&own, kernel, rows, out, &mut lent)
 }
 
 // The records of the peaks of some rows, for rows of at most 16,384 samples, smoothed by the weights where there are

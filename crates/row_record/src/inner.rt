@@ -58,7 +58,7 @@ fn peak_from(words: &[u32; ImPeak1D::WORDS]) -> ImPeak1D
         width_scans: words[ImPeak1D::WIDTH_SCANS],
         area_raw: numeric::float_of(words[ImPeak1D::AREA_RAW]),
         subscan: numeric::float_of(words[ImPeak1D::SUBSCAN]),
-        id: words[ImPeak1D::ID],
+        id: im_id(words, 0),
     }
 }
 

@@ -3,7 +3,7 @@
 
 pub mod inner;
 
-ghost use Rattle.std.specs.Prelude.{◌≡◌, cond, ◌++◌, eqb, length, drop};
+ghost use Rattle.std.specs.Prelude.{◌≡◌, ◌≤◌, cond, ◌++◌, eqb, length, take, drop};
 ghost use Rattle.refusal.specs.Answers.{answer_by};
 ghost use Rattle.refusal.specs.Numbered.{number_in, says};
 ghost use Rattle.row_smoothing.specs.Smoothing.{smoothed, smooth_number};
@@ -30,6 +30,17 @@ fn check(v: &[f32], weights: &[f32], scratch: usize) -> Result<(), Refusal>
     Ok(())
 }
 
+// Fills `to` with the first readings of `from`. A loop: `copy_from_slice` of a list of any length is a call of `memmove`, which the C
+// archives would need from outside.
+fn copy(from: &[f32], to: &mut [f32])
+    requires { length to.old ≤ length from.now }
+    ensures { to.new ≡ take (length to.old) from.now }
+{
+    for (i, reading) in to.iter_mut().enumerate() {
+        *reading = from[i];
+    }
+}
+
 // Smooths v in place. The scratch then has the smoothed row at its front, and past it what it held.
 pub fn smooth_vector_gaussian(
     v: &mut [f32],
@@ -48,7 +59,6 @@ pub fn smooth_vector_gaussian(
 {
     check(v, weights, scratch.len())?;
     inner::smooth(v, weights, scratch);
-    let n = v.len();
-    v.copy_from_slice(&scratch[..n]);
+    copy(scratch, v);
     Ok(())
 }

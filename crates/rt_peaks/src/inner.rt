@@ -3,6 +3,7 @@ ghost use Rattle.std.specs.Prelude.{◌≡◌, ◌++◌, ◌≤◌, ◌*◌, len
 ghost use Rattle.limits.specs.Limits.{max_frames};
 ghost use Rattle.row_params.specs.Params.{most_peaks};
 ghost use Rattle.row_search.specs.Room.{Sizes};
+ghost use Rattle.row_search.specs.SameLists.{SameLists};
 ghost use Rattle.rt_record.specs.RtRecord.{local_size};
 ghost use Rattle.rt_search.specs.Steps.{RtSearchable};
 ghost use Rattle.rt_peaks.specs.Trace.{peak_words};
@@ -32,7 +33,9 @@ pub fn list_rt_peaks(
     out: &mut [u32],
 ) -> usize
     requires { RtSearchable trace.smoothed.now trace.raw.now trace.times.now scratch.old.samples (length order.old) × (most_peaks (length trace.smoothed.now) * local_size ≤ length out.old) }
-    ensures { Listed asked trace.entry.smoothed.now trace.entry.raw.now trace.entry.times.now out.old out.new result }
+    ensures listed { Listed asked trace.entry.smoothed.now trace.entry.raw.now trace.entry.times.now out.old out.new result }
+    ensures samples { scratch.new.samples ≡ scratch.old.samples }
+    ensures lists { SameLists scratch.old scratch.new }
 {
     let n = rt_search::inner::find_rt_apexes(trace, asked, scratch, order);
     put_rt_peaks(trace, scratch.found, &order[..n], out);

@@ -12,7 +12,7 @@ ghost use Rattle.rt_fallback.specs.FallbackNumber.{fallback_number, fallback_cou
 ghost use Rattle.expand_peak.specs.Expanded.{run_of};
 ghost use Rattle.expand_many.specs.Many.{many_of};
 ghost use Rattle.expand.specs.ExpandCall.{OneAnswered, ManyAnswered};
-ghost use Rattle.expand.specs.Lists.{lent_in, SameLists};
+ghost use Rattle.expand.specs.Lists.{lent_in, SameLists, SameLengths};
 
 use expand::lent::Lent;
 use expand_many::peaks::PeakList;
@@ -74,6 +74,7 @@ impl<'a> RtTraceCtx<'a> {
         ensures answer { OneAnswered (run_of index.now self.entry.frame_ids_sorted.now self.entry.rt_times_sec.now scale) e peak.now weights.now first
             (lent_in lent.old) (lent_in lent.new) result }
         ensures same { SameLists lent.old lent.new }
+        ensures lengths { SameLengths lent.old lent.new }
     {
         let run = Run {
             index,
@@ -97,6 +98,7 @@ impl<'a> RtTraceCtx<'a> {
         ensures answer { ManyAnswered (many_of (run_of index.now self.entry.frame_ids_sorted.now self.entry.rt_times_sec.now scale) e peaks.entry.list.now peaks.entry.weights.now peaks.entry.lengths.now peaks.entry.first)
             (lent_in lent.old) (lent_in lent.new) counts.old counts.new result }
         ensures same { SameLists lent.old lent.new }
+        ensures lengths { SameLengths lent.old lent.new }
     {
         let run = Run {
             index,

@@ -2,7 +2,7 @@
 ghost use Rattle.std.specs.Prelude.{◌≡◌, Bool};
 ghost use Rattle.std.specs.Bool.{then_some};
 ghost use Rattle.stitch_matching.specs.declared.StitchParams.{StitchParams};
-ghost use Rattle.stitch_passes.specs.Lists.{SameLists};
+ghost use Rattle.stitch_passes.specs.Lists.{SameLists, SameLengths};
 ghost use Rattle.stitch.specs.Answer.{lent_in, Answered};
 
 use super::numbers::Rooms;
@@ -19,6 +19,7 @@ pub fn stitch_told(
 ) -> Result<usize, Refusal>
     ensures answer { (told : Bool) (p : StitchParams) → params ≡ then_some told p → Answered told list.now p (lent_in lists.old) (lent_in lists.new) result }
     ensures same { SameLists lists.old lists.new }
+    ensures lengths { SameLengths lists.old lists.new }
 {
     let records = Records::of(list);
     // an identity twice is found last, since what finds it leaves the order that stitching starts from

@@ -5,7 +5,7 @@ pub mod inner;
 pub mod numbers;
 
 ghost use Rattle.std.specs.Prelude.{true};
-ghost use Rattle.stitch_passes.specs.Lists.{SameLists};
+ghost use Rattle.stitch_passes.specs.Lists.{SameLists, SameLengths};
 ghost use Rattle.stitch.specs.Answer.{lent_in, Answered};
 
 use refusal::Refusal;
@@ -21,6 +21,7 @@ pub fn stitch_im_peaks_flat_unordered_impl(
 ) -> Result<usize, Refusal>
     ensures answer { Answered true list.now params (lent_in lists.old) (lent_in lists.new) result }
     ensures same { SameLists lists.old lists.new }
+    ensures lengths { SameLengths lists.old lists.new }
 {
     inner::stitch_told(list, Some(params), lists)
 }

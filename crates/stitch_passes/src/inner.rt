@@ -8,7 +8,7 @@ ghost use Rattle.sort_digits.specs.Sorted.{up_to};
 ghost use Rattle.stitch_keys.specs.declared.KeyRule.TheVariants.{Identity};
 ghost use Rattle.stitch_keys.specs.Keys.{width_of};
 ghost use Rattle.stitch_grouping.specs.Grouping.{pass_order};
-ghost use Rattle.stitch_passes.specs.Lists.{SameLists};
+ghost use Rattle.stitch_passes.specs.Lists.{SameLists, SameLengths};
 ghost use Rattle.stitch_passes.specs.Steps.{records_at, rest_order, Passed, Within, Stitched};
 
 use super::Lent;
@@ -123,6 +123,7 @@ pub fn stitch_peaks(records: Records<'_>, params: StitchParams, lists: &mut Lent
     ensures keys { drop (records.entry.count * size) lists.new.keys.now ≡ drop (records.entry.count * size) lists.old.keys.now }
     ensures merged { drop (records.entry.count * size) lists.new.merged.now ≡ drop (records.entry.count * size) lists.old.merged.now }
     ensures same { SameLists lists.old lists.new }
+    ensures lengths { SameLengths lists.old lists.new }
 {
     let n = records.count;
     let order = &mut *lists.order;

@@ -6,6 +6,7 @@ ghost use Rattle.row_params.specs.Params.{most_peaks};
 ghost use Rattle.row_search.specs.Qualifying.{highest_reading, reaches, kept};
 ghost use Rattle.row_search.specs.Found.{Searchable, Standing};
 ghost use Rattle.row_search.specs.Room.{Sizes};
+ghost use Rattle.row_search.specs.SameLists.{SameLists};
 ghost use Rattle.table_text.specs.Print.{peak_line};
 ghost use Rattle.table_text.specs.Table.{verdict};
 ghost use Rattle.table_peak_lines.specs.RowLines.{place_of, no_frames, no_axes, Printable, Printed};
@@ -98,7 +99,9 @@ fn put_lines_by(
     out: &mut [u8],
 ) -> usize
     requires { Printable y.now (length out.old) × Searchable p y.now y.now scratch.old.samples }
-    ensures { Printed tof_row y.now out.old out.new result (kept p y.now y.now) }
+    ensures printed { Printed tof_row y.now out.old out.new result (kept p y.now y.now) }
+    ensures samples { scratch.new.samples ≡ scratch.old.samples }
+    ensures lists { SameLists scratch.old scratch.new }
 {
     let n = row_search::inner::find_apexes(y, y, p, scratch);
     put_peak_lines(scratch.found, n, y, tof_row, out)

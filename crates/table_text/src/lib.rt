@@ -21,8 +21,8 @@ pub const MAX_FIELDS: usize = 4096;
 // The most digits of a number that is read.
 const MAX_DIGITS: usize = 8;
 
-// The bytes of the longest row, with its CR: as many fields of 8 digits, each with one byte behind it.
-pub const MAX_LINE: usize = MAX_FIELDS * (8 + 1);
+// The bytes of the longest row, with its CR: as many fields of the most digits, each with one byte behind it.
+pub const MAX_LINE: usize = MAX_FIELDS * (MAX_DIGITS + 1);
 
 // The most bytes that the line of a peak has: five numbers of 10 digits and four words of 8, each with a comma, the last with
 // CR LF.

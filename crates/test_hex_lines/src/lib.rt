@@ -18,22 +18,28 @@ pub enum Stage {
     Ended,
 }
 
-// What has been read of a line: its whole words, at the front of a lent list, the word that is being read, and how the line stands. The
-// list and its count stand side by side: a slice of the words so far could not grow in the list.
-#[derive(Drop)]
-pub struct Reading<'a> {
-    words: &'a mut [u32],
-    count: usize,
-    word: Option<u32>,
-    stage: Stage,
+// What has been read of a line: how many whole words, the word that is being read, and how the line stands.
+#[derive(Clone, Copy)]
+pub struct Reading {
+    pub words: usize,
+    pub word: Option<u32>,
+    pub stage: Stage,
 }
 
-impl<'a> Model for Reading<'a> {
+// A line that is read into a lent list: the list, which has the whole words at its front, and what has been read. The list and its count
+// stand side by side: a slice of the words so far could not grow in the list.
+#[derive(Drop)]
+pub struct LineReader<'a> {
+    words: &'a mut [u32],
+    reading: Reading,
+}
+
+impl<'a> Model for LineReader<'a> {
     ghost Value = { LineIn };
 
-    ghost view = { λ r. record { line = record { words = take r.count r.words.now; word = r.word; stage = r.stage }; room = length r.words.now } };
+    ghost view = { λ r. record { line = record { words = take r.reading.words r.words.now; word = r.reading.word; stage = r.reading.stage }; room = length r.words.now } };
 
-    ghost invariant = { λ r. r.count ≤ length r.words.now };
+    ghost invariant = { λ r. r.reading.words ≤ length r.words.now };
 }
 
 // The value of a hexadecimal digit. `to_digit` takes capital letters as well, which part words here.
@@ -57,32 +63,61 @@ fn with_digit(word: Option<u32>, d: u8) -> u32
     word.unwrap_or(0) % 0x1000_0000 * 16 + u32::from(d)
 }
 
-impl<'a> Reading<'a> {
-    // Nothing has been read yet; a line has room for as many words as the list is long.
-    pub fn new(words: &'a mut [u32]) -> Reading<'a>
-        ensures line { result.line ≡ no_line }
-        ensures room { result.room ≡ length words.old }
+impl Reading {
+    // Nothing has been read yet.
+    pub fn new() -> Reading
+        ensures { result ≡ record { words = 0; word = no_line.word; stage = no_line.stage } }
     {
         Reading {
-            words,
-            count: 0,
+            words: 0,
             word: None,
             stage: Stage::Words,
         }
+    }
+}
+
+impl<'a> LineReader<'a> {
+    // Nothing has been read yet; a line has room for as many words as the list is long.
+    pub fn new(words: &'a mut [u32]) -> LineReader<'a>
+        ensures line { result.line ≡ no_line }
+        ensures room { result.room ≡ length words.old }
+    {
+        LineReader {
+            words,
+            reading: Reading::new(),
+        }
+    }
+
+    // Goes on with a line: its whole words stand at the front of the list.
+    pub fn resume(words: &'a mut [u32], reading: Reading) -> LineReader<'a>
+        requires { reading.words ≤ length words.old }
+        ensures line { result.line ≡ record { words = take reading.words words.old; word = reading.word; stage = reading.stage } }
+        ensures room { result.room ≡ length words.old }
+    {
+        LineReader { words, reading }
+    }
+
+    // What has been read, to be kept beside the list.
+    #[tactic(auto, using(crate::proofs::Laws::length_taken))]
+    pub fn reading(&self) -> Reading
+        ensures { result ≡ record { words = length self.now.line.words; word = self.now.line.word; stage = self.now.line.stage } }
+    {
+        let LineReader { reading, .. } = self;
+        *reading
     }
 
     // The whole words.
     pub fn words(&self) -> &[u32]
         ensures { result.now ≡ self.now.line.words }
     {
-        &self.words[..self.count]
+        &self.words[..self.reading.words]
     }
 
     // The whole words, when the line is done with: the front of the list that was lent.
     pub fn into_words(self) -> &'a [u32]
         ensures { result.now ≡ self.entry.line.words }
     {
-        let n = self.count;
+        let n = self.reading.words;
         let words = self.words;
         &words[..n]
     }
@@ -91,7 +126,7 @@ impl<'a> Reading<'a> {
     pub fn has_ended(&self) -> bool
         ensures { result ≡ has_ended self.now.line }
     {
-        self.stage == Stage::Ended
+        self.reading.stage == Stage::Ended
     }
 
     // The word that is being read has ended: it stands behind the others, and is dropped where there is no room.
@@ -100,14 +135,14 @@ impl<'a> Reading<'a> {
         ensures line { self.new.line ≡ closed_by self.old.room stage self.old.line }
         ensures room { self.new.room ≡ self.old.room }
     {
-        if let Some(word) = self.word {
-            if self.count < self.words.len() {
-                self.words[self.count] = word;
-                self.count += 1;
+        if let Some(word) = self.reading.word {
+            if self.reading.words < self.words.len() {
+                self.words[self.reading.words] = word;
+                self.reading.words += 1;
             }
         }
-        self.word = None;
-        self.stage = stage;
+        self.reading.word = None;
+        self.reading.stage = stage;
     }
 
     // One byte more of a line that has not ended.
@@ -118,12 +153,14 @@ impl<'a> Reading<'a> {
     {
         if b == b'\n' {
             self.close(Stage::Ended);
-        } else if self.stage == Stage::PassedOver {} else if b == b'#' && self.count == 0 {
-            self.word = None;
-            self.stage = Stage::PassedOver;
+        } else if self.reading.stage == Stage::PassedOver {} else if b == b'#'
+            && self.reading.words == 0
+        {
+            self.reading.word = None;
+            self.reading.stage = Stage::PassedOver;
         } else if let Some(d) = digit(b) {
-            self.word = Some(with_digit(self.word, d));
-            self.stage = Stage::Words;
+            self.reading.word = Some(with_digit(self.reading.word, d));
+            self.reading.stage = Stage::Words;
         } else {
             self.close(Stage::Words);
         }
@@ -135,10 +172,10 @@ impl<'a> Reading<'a> {
         ensures line { self.new.line ≡ fed self.old.room self.old.line b }
         ensures room { self.new.room ≡ self.old.room }
     {
-        if self.stage == Stage::Ended {
-            self.count = 0;
-            self.word = None;
-            self.stage = Stage::Words;
+        if self.reading.stage == Stage::Ended {
+            self.reading.words = 0;
+            self.reading.word = None;
+            self.reading.stage = Stage::Words;
         }
         self.next(b);
     }

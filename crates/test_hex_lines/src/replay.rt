@@ -4,7 +4,7 @@ ghost use Rattle.std.specs.List.{fold};
 ghost use Rattle.test_hex_lines.specs.Judges.{Judges};
 ghost use Rattle.test_hex_lines.specs.Lines.{counting, ReplayedIn, at_start, replayed};
 
-use super::Reading;
+use super::LineReader;
 use std::fmt;
 use std::io::Read;
 use std::marker::Model;
@@ -41,7 +41,7 @@ impl fmt::Display for Tally {
 // What is read and what is counted.
 #[derive(Drop)]
 pub struct Replay<'a> {
-    line: Reading<'a>,
+    line: LineReader<'a>,
     tally: Tally,
 }
 
@@ -58,7 +58,7 @@ impl<'a> Replay<'a> {
         ensures room { result.room ≡ length words.old }
     {
         Replay {
-            line: Reading::new(words),
+            line: LineReader::new(words),
             tally: Tally::default(),
         }
     }

@@ -10,7 +10,7 @@ mod scales;
 use lines::{Lent, ROOM};
 use test_hex_lines::parts::{Line, spread, word};
 
-// Whether a line has the port's answer, with fresh lists lent; None where it is too short for its call, or of no function.
+// Whether a line has the port's answer, with fresh lists lent; None where it is too short to be compared.
 fn judged(words: &[u32]) -> Option<bool> {
     let floats: [f32; ROOM] = spread(words);
     let mut line = Line::new(words, &floats);

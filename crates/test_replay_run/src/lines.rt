@@ -47,7 +47,7 @@ impl<'a> Stored<'a> {
 
     // The number, and one count, which is 0 where the line ends before it.
     pub(crate) fn number_and_count(line: &mut Line<'a>) -> Option<Self> {
-        let n = line.rest().len().min(2).max(1);
+        let n = line.rest().len().clamp(1, 2);
         Some(Stored {
             words: line.take_words(n)?,
         })

@@ -13,7 +13,7 @@ mod sums;
 use lines::ROOM;
 use test_hex_lines::parts::{Line, spread, word};
 
-// None where a line is too short for its call. A match on the function, whose number the stored line has.
+// None where a line is too short to be compared. A match on the function, whose number the stored line has.
 fn agrees_in(function: u32, line: &mut Line<'_>) -> Option<bool> {
     match function {
         1 => frames::agrees(line),

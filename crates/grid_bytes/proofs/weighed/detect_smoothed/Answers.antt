@@ -59,8 +59,8 @@ detect_rows-requires c =
     let ready = subst (λ (l : List Float). Ready (bytes_in c.args.call.now l) c.args.rows.start c.args.rows.end (length c.args.out.now / 4)) (sym is) c.requires.0 in
     record { rows = (length c.args.out.now / 4, omega arith, ready); lent = c.requires.1 }
 
-pub returns : goal.returns
-returns c =
+pub returns-clause-done : goal.returns-clause-done
+returns-clause-done c =
     let b = c.args.weights.now in
     let w = c.decode_floats in
     let fits = bytes-fit b c.requires.0.weighed in

@@ -21,8 +21,8 @@ put_rt_peaks-requires c = let t = c.args.trace in
       short = ready.short;
     }
 
-pub returns : goal.returns
-returns c = let a = c.args.asked in
+pub returns-clause-listed : goal.returns-clause-listed
+returns-clause-listed c = let a = c.args.asked in
     let t = c.args.trace in
     let r = c.find_rt_apexes-n in
     let h = r.ensures.found in
